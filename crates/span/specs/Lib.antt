@@ -1,0 +1,5 @@
+pub mod Encloses
+pub mod Faults
+pub mod Intervals
+pub mod Rounding
+pub mod Spans
