@@ -61,7 +61,7 @@ impl Finding {
     pub fn low_moved(&self) -> bool
         ensures { λ r. ⌜ r ≡ ltZ (now (self .entry) .due .low) (now (self .entry) .«dropped_low») ⌝ }
     {
-        self.due.low() < self.dropped_low
+        self.dropped_low > self.due.low()
     }
 
     // Whether the high end had moved inward.

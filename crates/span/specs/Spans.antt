@@ -21,3 +21,8 @@ pub record Fits (s : Interval) : Type 0 where
 abbrev pub Answers : Result Span Fault → Interval → Fault → Type 0
 Answers (Ok s) exact fault = ends s ≡ exact
 Answers (Err e) exact fault = (e ≡ fault) × (Fits exact → ⊥)
+
+-- the same of the two ends, before they make a span
+abbrev pub Ends : Result (ℤ × ℤ) Fault → Interval → Fault → Type 0
+Ends (Ok p) exact fault = (p .0 ≡ exact .low) × (p .1 ≡ exact .high)
+Ends (Err e) exact fault = (e ≡ fault) × (Fits exact → ⊥)

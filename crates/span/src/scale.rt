@@ -20,8 +20,7 @@ pub trait Scale {
 
     // The greatest whole number not above v / S, and the least not below it.
     fn bring_back(v: i64) -> (i64, i64)
-        ensures lower { λ r. ⌜ r .0 ≡ floor unit v ⌝ }
-        ensures upper { λ r. ⌜ r .1 ≡ ceiling unit v ⌝ };
+        ensures { λ r. ⌜ (r .0 ≡ floor unit v) × (r .1 ≡ ceiling unit v) ⌝ };
 }
 
 // Millionths of a bet, brought back by division.
@@ -38,9 +37,24 @@ pub impl Scale for Millionths as MillionthsScale {
     }
 
     fn bring_back(v: i64) -> (i64, i64) {
-        let lower = v.div_euclid(Self::S);
-        let upper = if v % Self::S == 0 { lower } else { lower + 1 };
-        (lower, upper)
+        (millionths_below(v), millionths_above(v))
+    }
+}
+
+fn millionths_below(v: i64) -> i64
+    ensures { λ r. ⌜ r ≡ floor 1000000 v ⌝ }
+{
+    v.div_euclid(Millionths::S)
+}
+
+// Division drops the remainder, which is upward where v is not above 0.
+fn millionths_above(v: i64) -> i64
+    ensures { λ r. ⌜ r ≡ ceiling 1000000 v ⌝ }
+{
+    if v > 0 {
+        (v - 1) / Millionths::S + 1
+    } else {
+        v / Millionths::S
     }
 }
 

@@ -10,8 +10,8 @@ ghost use Rattle.span.specs.declared.fault.Fault.the-variants.{LowAboveHigh, T
 ghost use Rattle.span.specs.declared.fault.Operation.the-variants.{Sum, Difference, Product};
 ghost use Rattle.span.specs.Encloses.{Sums, Differences, Products, Quotients};
 ghost use Rattle.span.specs.Intervals.{EndProducts, Interval, point, _+ᵢ_, _-ᵢ_, _*ᵢ_, brought, least, greatest};
-ghost use Rattle.span.specs.Rounding.{Greatest-not-above, Least-not-below};
-ghost use Rattle.span.specs.Spans.{Answers, Fits, ends};
+ghost use Rattle.span.specs.Rounding.{Greatest-not-above, Least-not-below, ceiling, floor};
+ghost use Rattle.span.specs.Spans.{Answers, Ends, Fits, ends};
 use super::Span;
 use crate::fault::Fault;
 use crate::fault::Operation;
@@ -35,30 +35,13 @@ impl Span {
         Span { low: x, high: x }
     }
 
-    pub fn low(&self) -> i64
-        ensures { λ r. ⌜ r ≡ now (self .entry) .low ⌝ }
-    {
-        self.low
-    }
-
-    pub fn high(&self) -> i64
-        ensures { λ r. ⌜ r ≡ now (self .entry) .high ⌝ }
-    {
-        self.high
-    }
-
     // The ends added.
     pub fn add(self, other: Span) -> Result<Span, Fault>
         ensures value { λ r. ⌜ Answers r (ends self +ᵢ ends other) (TooLarge Sum) ⌝ }
         ensures ordered { λ r. ⌜ made r (λ s. s .low ≤ℤ s .high) ⌝ }
         ensures encloses { λ r. ⌜ made r (λ s. Sums (ends self) (ends other) (ends s)) ⌝ }
     {
-        let (Some(low), Some(high)) = (
-            self.low.checked_add(other.low),
-            self.high.checked_add(other.high),
-        ) else {
-            return Err(Fault::TooLarge(Operation::Sum));
-        };
+        let (low, high) = end_sums(self, other)?;
         Ok(Span { low, high })
     }
 
@@ -68,12 +51,7 @@ impl Span {
         ensures ordered { λ r. ⌜ made r (λ s. s .low ≤ℤ s .high) ⌝ }
         ensures encloses { λ r. ⌜ made r (λ s. Differences (ends self) (ends other) (ends s)) ⌝ }
     {
-        let (Some(low), Some(high)) = (
-            self.low.checked_sub(other.high),
-            self.high.checked_sub(other.low),
-        ) else {
-            return Err(Fault::TooLarge(Operation::Difference));
-        };
+        let (low, high) = end_differences(self, other)?;
         Ok(Span { low, high })
     }
 
@@ -98,10 +76,36 @@ impl Span {
         ensures ordered { λ r. ⌜ r .low ≤ℤ r .high ⌝ }
         ensures encloses { λ r. ⌜ Quotients (T·Scale .unit) (ends self) (ends r) ⌝ }
     {
-        let (low, _) = T::bring_back(self.low);
-        let (_, high) = T::bring_back(self.high);
+        let (low, high) = outward::<T>(self);
         Span { low, high }
     }
+}
+
+fn end_sums(s: Span, t: Span) -> Result<(i64, i64), Fault>
+    ensures { λ r. ⌜ Ends r (ends s +ᵢ ends t) (TooLarge Sum) ⌝ }
+{
+    let (Some(low), Some(high)) = (s.low.checked_add(t.low), s.high.checked_add(t.high)) else {
+        return Err(Fault::TooLarge(Operation::Sum));
+    };
+    Ok((low, high))
+}
+
+fn end_differences(s: Span, t: Span) -> Result<(i64, i64), Fault>
+    ensures { λ r. ⌜ Ends r (ends s -ᵢ ends t) (TooLarge Difference) ⌝ }
+{
+    let (Some(low), Some(high)) = (s.low.checked_sub(t.high), s.high.checked_sub(t.low)) else {
+        return Err(Fault::TooLarge(Operation::Difference));
+    };
+    Ok((low, high))
+}
+
+// The lower figure of the low end, and the upper of the high end.
+fn outward<T: Scale>(s: Span) -> (i64, i64)
+    ensures { λ r. ⌜ (r .0 ≡ floor (T·Scale .unit) (s .low)) × (r .1 ≡ ceiling (T·Scale .unit) (s .high)) ⌝ }
+{
+    let (lower, _) = T::bring_back(s.low);
+    let (_, upper) = T::bring_back(s.high);
+    (lower, upper)
 }
 
 // The four products of an end of s and an end of t.

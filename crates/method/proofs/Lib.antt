@@ -1,0 +1,12 @@
+pub mod SumLaws
+pub mod Sizes
+pub mod Contraction
+pub mod Steps
+pub mod Insides
+pub mod Linear
+pub mod Narrows
+pub mod Choices
+pub mod Denominators
+pub mod Soundness
+pub mod Halves
+pub mod Bounds

@@ -1,0 +1,5 @@
+pub mod Sums
+pub mod Fractions
+pub mod Limits
+pub mod Method
+pub mod Sound
