@@ -1,0 +1,5 @@
+pub mod Kinds
+pub mod Calls
+pub mod Reading
+pub mod Pairs
+pub mod Answers
