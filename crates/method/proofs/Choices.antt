@@ -1,17 +1,14 @@
 -- at one choice an accepted box makes the method a `Step`, and a solution's distance from the guesses is fixed under it
-use Prim.Native.Nat.{ℕ, zero, suc, _*_, _<_}
+use Prim.Native.Nat.{ℕ, suc, _*_, _<_}
 use native.Mathlib.Nat.{mul-pos}
 use native.Mathlib.Omega.{arith}
 use mathlib.Core.Bool.{cond}
 use mathlib.Core.Path.{_≡_, ap, _∙_, sym}
 use lib.Dec.{eqb}
 use lib.IntN.{ℤ, pos, _+ℤ_, _*ℤ_, _-ℤ_, negℤ}
-use lib.Signed.{_≤ℤ_}
-use Rattle.span.specs.Intervals.{Interval, point, _*ᵢ_, brought}
+use Rattle.span.specs.Intervals.{Interval}
 use Rattle.span.proofs.Integers.{lin, *ℤ-add-left, *ℤ-add-right, *ℤ-neg-left, *ℤ-neg-right, *ℤ-assoc, *ℤ-left-comm}
-use Rattle.span.proofs.Contains.{product-ordered}
-use Rattle.span.proofs.Floors.{floor-ceiling}
-use Rattle.method.specs.Sums.{sumZ, sumᵢ}
+use Rattle.method.specs.Sums.{sumZ}
 use Rattle.method.specs.Method.{Game, Proposal, residual, iteration, step, Accepted}
 use Rattle.method.proofs.Narrows.{step-ordered}
 use Rattle.method.proofs.SumLaws.{sum-same, sum-sub, sum-scale, sum-pick, sum-mixed, exchanged, exchanged-right}
@@ -100,14 +97,16 @@ module _ (S : ℕ) (G : Game) (H : Proposal) (q : ℕ) (t : ℕ → ℤ) where
   pub shift-fixed : (D : ℕ) (X : ℕ → ℤ) → Solves D X → Fixed (G .states) (q * (S * S) * S) (exact-iteration S G H q t) (exact-residual S G H q t) D (shift D X)
   shift-fixed D X s = record {
     stays = λ i h. fixed (pos (q * (S * S) * S) *ℤ shift D X i) (pos D *ℤ exact-residual S G H q t i) _ _ _
-      (less (G .states) (pos (q * S)) (λ j. cond (eqb i j) (pos (S * S)) (pos 0)) (λ j. sumZ (suc (G .settings)) (λ v. t v *ℤ exact-product S G H v i j)) (shift D X))
-      (products-meet D X s i)
-      (ap (λ z. pos (q * S) *ℤ z) (sum-pick (G .states) i (pos (S * S)) (shift D X) h) ∙ whole (shift D X i));
+        (less (G .states) (pos (q * S)) (λ j. cond (eqb i j) (pos (S * S)) (pos 0)) (λ j. sumZ (suc (G .settings)) (λ v. t v *ℤ exact-product S G H v i j)) (shift D X))
+        (products-meet D X s i)
+        (ap (λ z. pos (q * S) *ℤ z) (sum-pick (G .states) i (pos (S * S)) (shift D X) h) ∙ whole (shift D X i));
   }
     where
       fixed : (u r c k p : ℤ) → c ≡ k -ℤ p → p ≡ r → k ≡ u → u ≡ r +ℤ c
       fixed u r c k p e f g = omega (arith, lin)
+
       same : (q S : ℕ) → q * S * (S * S) ≡ q * (S * S) * S
       same q S = omega arith
+
       whole : (u : ℤ) → pos (q * S) *ℤ (pos (S * S) *ℤ u) ≡ pos (q * (S * S) * S) *ℤ u
       whole u = sym (*ℤ-assoc (pos (q * S)) (pos (S * S)) u) ∙ ap (λ m. pos m *ℤ u) (same q S)

@@ -26,12 +26,14 @@ further n e w p k = elim (either (e (suc n) * w (k .at)) (e (k .at) * w (suc n))
   where
     split : (j : ℕ) → j < suc (suc n) → (j ≡ suc n) ⊎ (j < suc n)
     split j h = grind arith
+
     stays : e (suc n) * w (k .at) ≤ e (k .at) * w (suc n) → Peak (suc (suc n)) e w
     stays l = record {
       at = k .at;
       below = omega (arith, k .below);
       most = λ j h. elim (split j h) [ inl s ↦ rw s l | inr s ↦ k .most j s ];
     }
+
     moves : e (k .at) * w (suc n) ≤ e (suc n) * w (k .at) → Peak (suc (suc n)) e w
     moves m = record {
       at = suc n;
@@ -51,19 +53,21 @@ module _ (n N : ℕ) (a : ℕ → ℕ → ℕ) (w e : ℕ → ℕ)
   top-zero k = elim (eq-zero-or-pos (e (k .at))) [ inl z ↦ z | inr p ↦ absurd (clash p) ]
     where
       clash : 0 < e (k .at) → ⊥
-      clash p = omega (arith,
+      clash p = omega (
+        arith,
         mul-le-mul-left (w (k .at)) (grows (k .at) (k .below)),
         sumN-scale n (w (k .at)) (λ j. a (k .at) j * e j),
         sumN-least n (λ j. w (k .at) * (a (k .at) j * e j)) (λ j. e (k .at) * (a (k .at) j * w j)) (λ j h. omega (arith, mul-le-mul-left (a (k .at) j) (k .most j h))),
         sumN-scale n (e (k .at)) (λ j. a (k .at) j * w j),
-        mul-lt-mul-of-pos-left (shrinks (k .at) (k .below)) p)
+        mul-lt-mul-of-pos-left (shrinks (k .at) (k .below)) p,
+      )
 
   -- and so everywhere below it
   rest-zero : (k : Peak n e w) → 0 < w (k .at) → (i : ℕ) → i < n → e i ≡ 0
   rest-zero k p i h =
-    let l : w (k .at) * e i ≤ w (k .at) * 0 = omega (arith, k .most i h, ap (λ z. z * w i) (top-zero k)) in
-    let m : e i ≤ 0 = le-of-mul-le-mul-left l p in
-    omega arith
+      let l : w (k .at) * e i ≤ w (k .at) * 0 = omega (arith, k .most i h, ap (λ z. z * w i) (top-zero k)) in
+      let m : e i ≤ 0 = le-of-mul-le-mul-left l p in
+      omega arith
 
 -- what shrinks by the widths w and does not shrink is nothing
 pub contraction : (n N : ℕ) (a : ℕ → ℕ → ℕ) (w e : ℕ → ℕ) → ((i : ℕ) → i < n → sumN n (λ j. a i j * w j) < N * w i) → ((i : ℕ) → i < n → N * e i ≤ sumN n (λ j. a i j * e j)) → (i : ℕ) → i < n → e i ≡ 0
@@ -72,5 +76,6 @@ contraction (suc n) N a w e s g i h = rest-zero (suc n) N a w e s g top (wide (t
   where
     wide : (j : ℕ) → j < suc n → 0 < w j
     wide j l = elim (eq-zero-or-pos (w j)) [ inl z ↦ absurd (omega (arith, s j l, ap (λ m. N * m) z)) | inr p ↦ p ]
+
     top : Peak (suc n) e w
     top = peak n e w wide

@@ -72,12 +72,12 @@ crossed-right D E b l d e p = simp expand (simp expand at (ap (λ z. D *ℤ d *�
 pub over-least : {D E : ℕ} {x y : Frac} {k l : ℤ} → Over D x k → Over E y l → x ≤ᶠ y → (pos E *ℤ k) ≤ℤ (pos D *ℤ l)
 over-least {D} {E} {x} {y} {k} {l} p q h =
     unscaled (x .den * y .den) (pos E *ℤ k) (pos D *ℤ l) (mul-pos (x .some) (y .some))
-      (omega (arith, lin, scaled (D * E) (h .least), crossed-left (pos D) (pos E) (x .num) k (pos (x .den)) (pos (y .den)) (p .same), crossed-right (pos D) (pos E) (y .num) l (pos (x .den)) (pos (y .den)) (q .same)))
+    (omega (arith, lin, scaled (D * E) (h .least), crossed-left (pos D) (pos E) (x .num) k (pos (x .den)) (pos (y .den)) (p .same), crossed-right (pos D) (pos E) (y .num) l (pos (x .den)) (pos (y .den)) (q .same)))
 
 pub least-over : {D E : ℕ} {x y : Frac} {k l : ℤ} → 0 < D → 0 < E → Over D x k → Over E y l → (pos E *ℤ k) ≤ℤ (pos D *ℤ l) → x ≤ᶠ y
 least-over {D} {E} {x} {y} {k} {l} r s p q h = record {
   least = unscaled (D * E) (x .num *ℤ pos (y .den)) (y .num *ℤ pos (x .den)) (mul-pos r s)
-    (omega (arith, lin, scaled (x .den * y .den) h, crossed-left (pos D) (pos E) (x .num) k (pos (x .den)) (pos (y .den)) (p .same), crossed-right (pos D) (pos E) (y .num) l (pos (x .den)) (pos (y .den)) (q .same)));
+      (omega (arith, lin, scaled (x .den * y .den) h, crossed-left (pos D) (pos E) (x .num) k (pos (x .den)) (pos (y .den)) (p .same), crossed-right (pos D) (pos E) (y .num) l (pos (x .den)) (pos (y .den)) (q .same)));
 }
 
 -- a common denominator of the fractions below n
@@ -95,6 +95,7 @@ factor (suc n) f j h = elim (split j h) [ inl e ↦ (common n f, rw e (mul-comm 
   where
     split : (j : ℕ) → j < suc n → (j ≡ n) ⊎ (j < n)
     split j h = grind arith
+
     earlier : ((m : ℕ) × (f j .den * m ≡ common n f)) → (m : ℕ) × (f j .den * m ≡ common n f * f n .den)
     earlier k = (k .0 * f n .den, sym (mul-assoc (f j .den) (k .0) (f n .den)) ∙ ap (λ z. z * f n .den) (k .1))
 

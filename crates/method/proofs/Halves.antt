@@ -15,10 +15,13 @@ halved-step : (S : ℕ) → 0 < S → (G : Game) (H : Proposal) (Y : ℕ → Int
 unfolding step
 halved-step S some G H Y m i r c y =
     size-brought S (2 * m + 1) _ some
-      (omega (arith, size-+ (point (pos S) *ᵢ residual S G H i) (sumᵢ (G .states) (λ j. iteration S G H i j *ᵢ Y j)),
-        size-product {a = S} (point (pos S)) (residual S G H i) (omega arith) r,
-        size-sum-product (G .states) (2 * m + 2) (iteration S G H i) Y y,
-        mul-le-mul-left (m + 1) c))
+    (omega (
+      arith,
+      size-+ (point (pos S) *ᵢ residual S G H i) (sumᵢ (G .states) (λ j. iteration S G H i j *ᵢ Y j)),
+      size-product {a = S} (point (pos S)) (residual S G H i) (omega arith) r,
+      size-sum-product (G .states) (2 * m + 2) (iteration S G H i) Y y,
+      mul-le-mul-left (m + 1) c,
+    ))
 
 pub first-accepted : First-accepted
 first-accepted S some G H half = record {

@@ -50,8 +50,8 @@ module _ (S : ℕ) (some : 0 < S) (G : Game) (H : Proposal) where
   unfolding correction
   correction-in v i =
       in-brought S (sumᵢ (G .states) (λ j. point (H .table i j) *ᵢ leftover S G H v j)) some S (exact-correction S G H v i)
-        (in-sums (G .states) S (λ j. point (H .table i j) *ᵢ leftover S G H v j) (λ l. H .table i l *ℤ exact-leftover S G H v l)
-          (λ l h. in-again (one-mul S) refl (in-product (point (H .table i l)) (leftover S G H v l) 1 S (H .table i l) (exact-leftover S G H v l) (in-unit (H .table i l)) (leftover-in v l))))
+      (in-sums (G .states) S (λ j. point (H .table i j) *ᵢ leftover S G H v j) (λ l. H .table i l *ℤ exact-leftover S G H v l)
+      (λ l h. in-again (one-mul S) refl (in-product (point (H .table i l)) (leftover S G H v l) 1 S (H .table i l) (exact-leftover S G H v l) (in-unit (H .table i l)) (leftover-in v l))))
 
   product-in : (v i j : ℕ) → In S (product S G H v i j) (exact-product S G H v i j)
   unfolding product
@@ -71,7 +71,7 @@ module _ (S : ℕ) (some : 0 < S) (G : Game) (H : Proposal) where
         let z : ℕ → Interval = λ v. correction S G H v i in
         let x : ℕ → ℤ = λ v. exact-correction S G H v i in
         in-brought S (point (pos S) *ᵢ z 0 +ᵢ sumᵢ (G .settings) (λ v. G .range (suc v) *ᵢ z (suc v))) some (q * (S * S)) (exact-residual S G H q t i)
-          (in-again refl (sym (sum-front (G .settings) (λ v. t v *ℤ x v))) (in-add {s = point (pos S) *ᵢ z 0} {t = sumᵢ (G .settings) (λ v. G .range (suc v) *ᵢ z (suc v))} (fixed-in z (S * S) x (λ v. correction-in v i)) (settings-in z (S * S) x (λ v. correction-in v i))))
+        (in-again refl (sym (sum-front (G .settings) (λ v. t v *ℤ x v))) (in-add {s = point (pos S) *ᵢ z 0} {t = sumᵢ (G .settings) (λ v. G .range (suc v) *ᵢ z (suc v))} (fixed-in z (S * S) x (λ v. correction-in v i)) (settings-in z (S * S) x (λ v. correction-in v i))))
 
     iteration-in : (i j : ℕ) → In (q * S * S) (iteration S G H i j) (exact-iteration S G H q t i j)
     unfolding iteration
@@ -82,8 +82,8 @@ module _ (S : ℕ) (some : 0 < S) (G : Game) (H : Proposal) where
         let f : Interval = point (pos S) *ᵢ z 0 in
         let s : Interval = sumᵢ (G .settings) (λ v. G .range (suc v) *ᵢ z (suc v)) in
         in-brought S (point d -ᵢ f -ᵢ s) some (q * S) (exact-iteration S G H q t i j)
-          (in-again refl (omega (arith, lin, sum-front (G .settings) (λ v. t v *ℤ x v)))
-            (in-sub {s = point d -ᵢ f} {t = s} (in-sub {s = point d} {t = f} (in-point (q * S) d) (fixed-in z S x (λ v. product-in v i j))) (settings-in z S x (λ v. product-in v i j))))
+        (in-again refl (omega (arith, lin, sum-front (G .settings) (λ v. t v *ℤ x v)))
+        (in-sub {s = point d -ᵢ f} {t = s} (in-sub {s = point d} {t = f} (in-point (q * S) d) (fixed-in z S x (λ v. product-in v i j))) (settings-in z S x (λ v. product-in v i j))))
 
     -- a point u / D of a box goes into the box's step
     pub step-in : (Y : ℕ → Interval) (D : ℕ) (u : ℕ → ℤ) → ((j : ℕ) → j < G .states → In D (Y j) (u j)) → (i : ℕ) → In (q * (S * S) * S * D) (step S G H Y i) (pos D *ℤ exact-residual S G H q t i +ℤ sumZ (G .states) (λ j. exact-iteration S G H q t i j *ℤ u j))

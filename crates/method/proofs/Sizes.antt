@@ -64,8 +64,8 @@ size-product {a} {b} s t h k =
     let p = size-within a s h in
     let q = size-within b t k in
     least-greatest-within (a * b) (s .low *ℤ t .low) (s .low *ℤ t .high) (s .high *ℤ t .low) (s .high *ℤ t .high)
-      (natAbs-product (s .low) (t .low) (p .0) (q .0)) (natAbs-product (s .low) (t .high) (p .0) (q .1))
-      (natAbs-product (s .high) (t .low) (p .1) (q .0)) (natAbs-product (s .high) (t .high) (p .1) (q .1))
+    (natAbs-product (s .low) (t .low) (p .0) (q .0)) (natAbs-product (s .low) (t .high) (p .0) (q .1))
+    (natAbs-product (s .high) (t .low) (p .1) (q .0)) (natAbs-product (s .high) (t .high) (p .1) (q .1))
 
 pub size-* : (s t : Interval) → size (s *ᵢ t) ≤ size s * size t
 size-* s t = size-product s t (le-refl (size s)) (le-refl (size t))

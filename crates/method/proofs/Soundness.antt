@@ -43,16 +43,16 @@ module _ (S : ℕ) (some : 0 < S) (G : Game) (p : ℕ → Frac) where
   unfolding at-choice
   figure-over a =
       subst (Over (S * bottom * S) (units S some (a 0) +ᶠ sumᶠ (G .settings) (λ v. p (suc v) *ᶠ units S some (a (suc v))))) (sym (sum-front (G .settings) (λ v. weight S bottom p v *ℤ a v)))
-        (over-add (over-more (S * bottom) (over-units S some (a 0)))
-          (over-sum (G .settings) (S * bottom * S) (λ v. p (suc v) *ᶠ units S some (a (suc v))) (λ v. weight S bottom p (suc v) *ℤ a (suc v)) (λ v h. over-mul (over-more S (setting-over v h)) (over-units S some (a (suc v))))))
+      (over-add (over-more (S * bottom) (over-units S some (a 0)))
+      (over-sum (G .settings) (S * bottom * S) (λ v. p (suc v) *ᶠ units S some (a (suc v))) (λ v. weight S bottom p (suc v) *ℤ a (suc v)) (λ v h. over-mul (over-more S (setting-over v h)) (over-units S some (a (suc v))))))
 
   -- a solution over D solves the equations of the exact figures
   solves : (x : ℕ → Frac) (D : ℕ) (X : ℕ → ℤ) → ((j : ℕ) → j < G .states → Over D (x j) (X j)) → Solution S some G p x → (H : Proposal) → Solves S G H bottom (weight S bottom p) D X
   solves x D X o s H = record {
     meets = λ i h. over-same
-      (over-sum (G .states) (S * bottom * S * D) (λ j. at-choice S some G p (λ v. G .matrix v i j) *ᶠ x j) (λ j. coefficient S G H bottom (weight S bottom p) i j *ℤ X j) (λ j l. over-mul (figure-over (λ v. G .matrix v i j)) (o j l)))
-      (subst (λ m. Over m (at-choice S some G p (λ v. G .payout v i)) (pos D *ℤ reward S G H bottom (weight S bottom p) i)) (mul-comm D (S * bottom * S)) (over-more D (figure-over (λ v. G .payout v i))))
-      (s .meets i h);
+        (over-sum (G .states) (S * bottom * S * D) (λ j. at-choice S some G p (λ v. G .matrix v i j) *ᶠ x j) (λ j. coefficient S G H bottom (weight S bottom p) i j *ℤ X j) (λ j l. over-mul (figure-over (λ v. G .matrix v i j)) (o j l)))
+        (subst (λ m. Over m (at-choice S some G p (λ v. G .payout v i)) (pos D *ℤ reward S G H bottom (weight S bottom p) i)) (mul-comm D (S * bottom * S)) (over-more D (figure-over (λ v. G .payout v i))))
+        (s .meets i h);
   }
 
 module _ (S : ℕ) (some : 0 < S) (G : Game) (H : Proposal) (Y : ℕ → Interval) (a : Accepted S G H Y) (p : ℕ → Frac) (choice : Choice S some G p) where
@@ -94,22 +94,22 @@ module _ (S : ℕ) (some : 0 < S) (G : Game) (H : Proposal) (Y : ℕ → Interva
   -- a solution over D lies in the held ranges
   held-in : (x : ℕ → Frac) (D : ℕ) (X : ℕ → ℤ) → 0 < D → ((j : ℕ) → j < G .states → Over D (x j) (X j)) → Solution S some G p x → (m : ℕ) → Within S some G (held S G H (narrowed S G H Y m)) x
   held-in x D X d o s m =
-    let V : ℕ → Interval = narrowed S G H Y m in
-    let inside : (i : ℕ) → i < G .states → In D (V i) (shift S G H q t D X i) = kept-on D (shift S G H q t D X) (shift-fixed S G H q t D X (solves S some G p x D X o s H)) m in
-    record {
-      above = λ i h. least-over some d (over-units S some (H .guess i +ℤ V i .low)) (o i h) (omega (arith, lin, inside i h .above, *ℤ-add-right (pos D) (H .guess i) (V i .low)));
-      below = λ i h. least-over d some (o i h) (over-units S some (H .guess i +ℤ V i .high)) (omega (arith, lin, inside i h .below, *ℤ-add-right (pos D) (H .guess i) (V i .high)));
-    }
+      let V : ℕ → Interval = narrowed S G H Y m in
+      let inside : (i : ℕ) → i < G .states → In D (V i) (shift S G H q t D X i) = kept-on D (shift S G H q t D X) (shift-fixed S G H q t D X (solves S some G p x D X o s H)) m in
+      record {
+        above = λ i h. least-over some d (over-units S some (H .guess i +ℤ V i .low)) (o i h) (omega (arith, lin, inside i h .above, *ℤ-add-right (pos D) (H .guess i) (V i .low)));
+        below = λ i h. least-over d some (o i h) (over-units S some (H .guess i +ℤ V i .high)) (omega (arith, lin, inside i h .below, *ℤ-add-right (pos D) (H .guess i) (V i .high)));
+      }
 
 pub soundness : Soundness
 soundness S some G H Y a = record {
   one = λ p x y c s e.
-    let A : ℕ = common (G .states) x in
-    let B : ℕ = common (G .states) y in
-    same-rows S some G H Y a p c x y (B * A) (λ j. pos B *ℤ numerator A (x j)) (λ j. pos A *ℤ numerator B (y j)) (mul-pos (common-some (G .states) y) (common-some (G .states) x))
+      let A : ℕ = common (G .states) x in
+      let B : ℕ = common (G .states) y in
+      same-rows S some G H Y a p c x y (B * A) (λ j. pos B *ℤ numerator A (x j)) (λ j. pos A *ℤ numerator B (y j)) (mul-pos (common-some (G .states) y) (common-some (G .states) x))
       (λ j h. over-more B (over-common (G .states) x j h))
       (λ j h. subst (λ m. Over m (y j) (pos A *ℤ numerator B (y j))) (mul-comm A B) (over-more A (over-common (G .states) y j h)))
       s e;
   inside = λ p x c s m.
-    held-in S some G H Y a p c x (common (G .states) x) (λ j. numerator (common (G .states) x) (x j)) (common-some (G .states) x) (over-common (G .states) x) s m;
+      held-in S some G H Y a p c x (common (G .states) x) (λ j. numerator (common (G .states) x) (x j)) (common-some (G .states) x) (over-common (G .states) x) s m;
 }

@@ -79,16 +79,19 @@ clamp-near N L H u F o p q = by-ltZ u L under (λ a. by-ltZ H u (over a) (betwee
   where
     size : natAbs (pos N *ℤ u -ℤ pos N *ℤ clamped L H u) ≡ N * natAbs (u -ℤ clamped L H u)
     size = ap natAbs (sym (apart (pos N) u (clamped L H u))) ∙ natAbs-* (pos N) (u -ℤ clamped L H u)
+
     under : u <ℤ L → N * natAbs (u -ℤ clamped L H u) ≤ natAbs (pos N *ℤ u -ℤ F)
     under h =
         let e : clamped L H u ≡ L = omega (arith, lin, clamps) in
         let k : u ≤ℤ L = omega (arith, lin) in
         omega (arith, lin, size, ap (λ z. pos N *ℤ z) e, scaled N k)
+
     over : L ≤ℤ u → H <ℤ u → N * natAbs (u -ℤ clamped L H u) ≤ natAbs (pos N *ℤ u -ℤ F)
     over a h =
         let e : clamped L H u ≡ H = omega (arith, lin, clamps) in
         let k : H ≤ℤ u = omega (arith, lin) in
         omega (arith, lin, size, ap (λ z. pos N *ℤ z) e, scaled N k)
+
     between : L ≤ℤ u → u ≤ℤ H → N * natAbs (u -ℤ clamped L H u) ≤ natAbs (pos N *ℤ u -ℤ F)
     between a b =
         let e : clamped L H u ≡ u = omega (arith, lin, clamps) in
@@ -106,10 +109,19 @@ module _ (n N : ℕ) (c : ℕ → ℕ → ℤ) (r : ℕ → ℤ) (Y V : ℕ → 
       let w : Y i .high ≡ Y i .low +ℤ pos (width (Y i)) = omega (arith, lin, box-ordered i h) in
       let p : Y i .low ≤ℤ V i .low = omega (arith, lin, s .above i h) in
       let q : (V i .high +ℤ pos 1) ≤ℤ Y i .high = omega (arith, lin, s .below i h) in
-      omega (arith, lin, a .below, b .above, s .some,
+      omega (
+        arith,
+        lin,
+        a .below,
+        b .above,
+        s .some,
         sum-spread n (λ j. c i j *ℤ top (c i j) (Y j)) (λ j. c i j *ℤ bottom (c i j) (Y j)) (λ j. natAbs (c i j) * width (Y j)) (λ j l. spread (c i j) (Y j) (box-ordered j l)),
-        ap (λ z. pos N *ℤ z) w, *ℤ-add-right (pos N) (Y i .low) (pos (width (Y i))),
-        scaled N p, scaled N q, *ℤ-add-right (pos N) (V i .high) (pos 1))
+        ap (λ z. pos N *ℤ z) w,
+        *ℤ-add-right (pos N) (Y i .low) (pos (width (Y i))),
+        scaled N p,
+        scaled N q,
+        *ℤ-add-right (pos N) (V i .high) (pos 1),
+      )
 
   -- a fixed point u is any v of which u is no farther than N u is from where v goes
   near : (D : ℕ) (u v : ℕ → ℤ) → Fixed n N c r D u → ((i : ℕ) → i < n → N * natAbs (u i -ℤ v i) ≤ natAbs (pos N *ℤ u i -ℤ (pos D *ℤ r i +ℤ sumZ n (λ j. c i j *ℤ v j)))) → (i : ℕ) → i < n → u i ≡ v i
@@ -144,5 +156,5 @@ module _ (n N : ℕ) (c : ℕ → ℕ → ℤ) (r : ℕ → ℤ) (Y V : ℕ → 
           let a : Y i .low ≤ℤ V i .low = omega (arith, lin, s .above i h) in
           let b : V i .high ≤ℤ Y i .high = omega (arith, lin, s .below i h) in
           clamp-near N (pos D *ℤ Y i .low) (pos D *ℤ Y i .high) (u i) (pos D *ℤ r i +ℤ sumZ n (λ j. c i j *ℤ clipped D u j)) (scaled D (box-ordered i h))
-            (omega (arith, lin, k .above, scaled (N * D) a, *ℤ-assoc (pos N) (pos D) (Y i .low)))
-            (omega (arith, lin, k .below, scaled (N * D) b, *ℤ-assoc (pos N) (pos D) (Y i .high)))
+          (omega (arith, lin, k .above, scaled (N * D) a, *ℤ-assoc (pos N) (pos D) (Y i .low)))
+          (omega (arith, lin, k .below, scaled (N * D) b, *ℤ-assoc (pos N) (pos D) (Y i .high)))

@@ -48,14 +48,14 @@ exchanged k n t r f =
     sum-same k (λ v. t v *ℤ sumZ n (λ l. r l *ℤ f v l)) (λ v. sumZ n (λ l. t v *ℤ (r l *ℤ f v l))) (λ v h. sym (sum-scale n (t v) (λ l. r l *ℤ f v l)))
     ∙ sum-swap k n (λ v l. t v *ℤ (r l *ℤ f v l))
     ∙ sum-same n (λ l. sumZ k (λ v. t v *ℤ (r l *ℤ f v l))) (λ l. r l *ℤ sumZ k (λ v. t v *ℤ f v l))
-        (λ l h. sum-same k (λ v. t v *ℤ (r l *ℤ f v l)) (λ v. r l *ℤ (t v *ℤ f v l)) (λ v g. *ℤ-left-comm (t v) (r l) (f v l)) ∙ sum-scale k (r l) (λ v. t v *ℤ f v l))
+    (λ l h. sum-same k (λ v. t v *ℤ (r l *ℤ f v l)) (λ v. r l *ℤ (t v *ℤ f v l)) (λ v g. *ℤ-left-comm (t v) (r l) (f v l)) ∙ sum-scale k (r l) (λ v. t v *ℤ f v l))
 
 pub exchanged-right : (k n : ℕ) (u r : ℕ → ℤ) (f : ℕ → ℕ → ℤ) → sumZ k (λ j. sumZ n (λ l. r l *ℤ f l j) *ℤ u j) ≡ sumZ n (λ l. r l *ℤ sumZ k (λ j. f l j *ℤ u j))
 exchanged-right k n u r f =
     sum-same k (λ j. sumZ n (λ l. r l *ℤ f l j) *ℤ u j) (λ j. u j *ℤ sumZ n (λ l. r l *ℤ f l j)) (λ j h. *ℤ-comm (sumZ n (λ l. r l *ℤ f l j)) (u j))
     ∙ exchanged k n u r (λ j l. f l j)
     ∙ sum-same n (λ l. r l *ℤ sumZ k (λ j. u j *ℤ f l j)) (λ l. r l *ℤ sumZ k (λ j. f l j *ℤ u j))
-        (λ l h. ap (λ z. r l *ℤ z) (sum-same k (λ j. u j *ℤ f l j) (λ j. f l j *ℤ u j) (λ j g. *ℤ-comm (u j) (f l j))))
+    (λ l h. ap (λ z. r l *ℤ z) (sum-same k (λ j. u j *ℤ f l j) (λ j. f l j *ℤ u j) (λ j g. *ℤ-comm (u j) (f l j))))
 
 -- the sum of a times a difference of multiples
 pub sum-mixed : (n : ℕ) (x y : ℤ) (a f g : ℕ → ℤ) → sumZ n (λ j. a j *ℤ (x *ℤ f j -ℤ y *ℤ g j)) ≡ x *ℤ sumZ n (λ j. a j *ℤ f j) -ℤ y *ℤ sumZ n (λ j. a j *ℤ g j)

@@ -1,9 +1,7 @@
 -- what the questions admit, and how large every sum can then get
-use Prim.Native.Nat.{ℕ, zero, suc, _+_, _*_, _<_, _≤_}
-use lib.IntN.{ℤ, pos, _+ℤ_, _*ℤ_, _-ℤ_, natAbs}
-use Rattle.span.specs.Intervals.{Interval, point, _+ᵢ_, _-ᵢ_, _*ᵢ_}
-use Rattle.method.specs.Method.{Game, Proposal, size, leftover, correction, residual, product, iteration, step}
-use Rattle.method.specs.Sums.{sumZ, sumᵢ}
+use Prim.Native.Nat.{ℕ, _*_, _≤_}
+use lib.IntN.{natAbs}
+use Rattle.method.specs.Method.{Game, Proposal, size}
 
 -- coefficients within one whole, payouts within 100, settings within one
 pub record Admitted (S : ℕ) (G : Game) : Type 0 where

@@ -2,8 +2,8 @@
 use Prim.Native.Nat.{ℕ, zero, suc, _+_, _*_, _<_, _≤_, max}
 use mathlib.Core.Bool.{cond}
 use lib.Dec.{eqb}
-use lib.IntN.{ℤ, pos, _+ℤ_, _*ℤ_, _-ℤ_, negℤ, natAbs}
-use lib.Signed.{_<ℤ_, _≤ℤ_}
+use lib.IntN.{ℤ, pos, _*ℤ_, _-ℤ_, negℤ, natAbs}
+use lib.Signed.{_<ℤ_}
 use Rattle.method.specs.Sums.{sumZ, sumN, sumᵢ}
 use Rattle.span.specs.Intervals.{Interval, point, _+ᵢ_, _-ᵢ_, _*ᵢ_, brought}
 

@@ -1,13 +1,9 @@
 -- why a printed row can be trusted: at most one solution, and any lies in the held ranges
-use mathlib.Core.List.{List}
-use mathlib.Core.Path.{_≡_}
-use lib.Dec.{lit<}
-use lib.ListN.{length, getD}
-use Prim.Native.Nat.{ℕ, zero, suc, pred, _+_, _*_, _<_, _≤_}
-use lib.IntN.{ℤ, pos, _+ℤ_, _*ℤ_}
+use Prim.Native.Nat.{ℕ, suc, _+_, _*_, _<_, _≤_}
+use lib.IntN.{ℤ}
 use lib.Signed.{_≤ℤ_}
 use Rattle.span.specs.Intervals.{Interval}
-use Rattle.method.specs.Method.{Game, Proposal, Accepted, narrowed, held, step, Halved, first-box}
+use Rattle.method.specs.Method.{Game, Proposal, Accepted, narrowed, held, Halved, first-box}
 use Rattle.method.specs.Fractions.{Frac, units, _+ᶠ_, _*ᶠ_, sumᶠ, _≈_, _≤ᶠ_}
 
 module _ (S : ℕ) (some : 0 < S) where

@@ -1,20 +1,19 @@
 -- what lies in two intervals lies, combined, in what the intervals give
-use Prim.Native.Nat.{ℕ, suc, _+_, _*_, _<_, _≤_}
+use Prim.Native.Nat.{ℕ, _+_, _*_, _<_, _≤_}
 use native.Mathlib.Omega.{arith}
-use mathlib.Core.Path.{_≡_, ap}
+use mathlib.Core.Path.{_≡_}
 use mathlib.Core.Logic.{_⊎_, inl, inr}
-use lib.IntN.{ℤ, pos, negsuc, _+ℤ_, _-ℤ_, _*ℤ_, negℤ, *ℤ-comm}
-use lib.Signed.{_≤ℤ_, _<ℤ_}
-use Rattle.std.proofs.shelf.Signed.{clamps, by-ltZ}
-use Rattle.std.specs.Numbers.{maxZ, minZ}
+use lib.IntN.{ℤ, pos, negsuc, _+ℤ_, _-ℤ_, _*ℤ_, *ℤ-comm}
+use lib.Signed.{_≤ℤ_}
+use Rattle.std.proofs.shelf.Signed.{clamps}
 use borrow.Author.Differences.{ints}
 use Rattle.span.specs.Encloses.{Sums, Differences, Products, Quotients}
 use Rattle.span.specs.Rounding.{floor, ceiling}
 use mir.Syntax.{w64}
 use mir.Val.{SFits}
 use Rattle.span.specs.Spans.{Fits}
-use Rattle.span.specs.Intervals.{Interval, point, _+ᵢ_, _-ᵢ_, _*ᵢ_, brought, least, greatest, In}
-use Rattle.span.proofs.Integers.{lin, distrib, expand, scaled, turned, *ℤ-assoc}
+use Rattle.span.specs.Intervals.{Interval, _+ᵢ_, _-ᵢ_, _*ᵢ_, brought, least, greatest}
+use Rattle.span.proofs.Integers.{lin, expand, scaled, turned, *ℤ-assoc}
 use Rattle.span.proofs.Floors.{floor-greatest, ceiling-least}
 
 -- orders of K × L × (a + b), each side given by its own denominator

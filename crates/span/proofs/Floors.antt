@@ -1,8 +1,7 @@
 -- floor and ceiling are the greatest figure not above, and the least not below
-use Prim.Native.Nat.{ℕ, suc, _+_, _*_, _/_, _%_, _<_, _≤_}
+use Prim.Native.Nat.{ℕ, _+_, _*_, _<_, _≤_}
 use native.Mathlib.Omega.{arith}
 use native.Mathlib.Nat.{div-add-mod, mod-lt, mul-le-mul-left}
-use mathlib.Core.Path.{_≡_, ap}
 use borrow.Author.Differences.{up, down, ints}
 use lib.IntN.{ℤ, pos, negsuc, _+ℤ_, _*ℤ_, negℤ}
 use lib.Signed.{_≤ℤ_, _<ℤ_}

@@ -3,10 +3,9 @@ use Prim.Native.Nat.{ℕ, suc, _+_, _*_, _≤_}
 use native.Mathlib.Nat.{mul-le-mul-left}
 use native.Mathlib.Omega.{arith}
 use mathlib.Core.Path.{_≡_, ap, _∙_, sym}
-use mathlib.Core.Logic.{_⊎_, inl, inr}
 use borrow.Author.Differences.{up, down, same-out, apart-out, lt-T, le-T, lt-not, le-not, lt-true, lt-false, le-true, le-false, true-lt, false-lt, true-le, false-le, not-negative-out, lt-out, le-out, same-in, lt-in, le-in, below-in, at-most-in, not-negative-in, true-is-lt, false-is-lt, true-is-le, false-is-le, sum-is, neg-is, product-is, abs-is, ints}
 use lib.IntN.{ℤ, pos, negsuc, _+ℤ_, _*ℤ_, negℤ, *ℤ-comm}
-use lib.Signed.{_≤ℤ_, _<ℤ_}
+use lib.Signed.{_≤ℤ_}
 
 -- for `omega`: sums, signs, sizes and orders of integers, a product being an atom
 pub ruleset lin = (same-out, apart-out, lt-T, le-T, lt-not, le-not, lt-true, lt-false, le-true, le-false, true-lt, false-lt, true-le, false-le, not-negative-out, lt-out, le-out, same-in, lt-in, le-in, below-in, at-most-in, not-negative-in, true-is-lt, false-is-lt, true-is-le, false-is-le, sum-is, neg-is, abs-is)

@@ -1,6 +1,5 @@
 -- bringing back: the figures below and above a quotient by the scale
 use Prim.Native.Nat.{ℕ}
-use mathlib.Core.Path.{_≡_}
 use lib.IntN.{ℤ, pos, negℤ, _*ℤ_}
 use lib.Signed.{_≤ℤ_, shrZ}
 
