@@ -58,10 +58,6 @@ dropped-fits S guess v sums d h p q e f g =
     between : (a b z : ℤ) → SFits w64 a → SFits w64 b → a ≤ℤ z → z ≤ℤ b → SFits w64 z
     between a b z p q r s = omega (arith, ints)
 
--- the row from its parts, as the code has them
-pub row-is : (d p b sums : Interval) (S : ℕ) (guess : ℤ) → SFits w64 guess → d ≡ p +ᵢ b → p ≡ point (toZ w64 (ofZ w64 guess)) → b ≡ brought S sums → d ≡ due-row S guess sums
-row-is d p b sums S guess f e q r = let q′ : p ≡ point guess = simp toZ-ofZ at q in cc
-
 -- a dropped end as the code has it
 pub end-is : (S : ℕ) (guess v w r : ℤ) → SFits w64 guess → SFits w64 v → SFits w64 r → w ≡ v → r ≡ dropped-end S (toZ w64 (ofZ w64 guess)) (toZ w64 (ofZ w64 w)) → toZ w64 (ofZ w64 r) ≡ dropped-end S guess v
 end-is S guess v w r f g h e d = simp toZ-ofZ (simp (e, toZ-ofZ) at d)

@@ -4,7 +4,10 @@ ghost use mathlib.Core.Path.{_≡_};
 ghost use lib.Signed.{ltZ};
 ghost use mir.Syntax.{w64};
 ghost use mir.Val.{SFits};
-ghost use Rattle.audit.specs.Rows.{Audited, dropped-end};
+ghost use Rattle.span.specs.declared.fault.Fault.the-variants.{TooLarge};
+ghost use Rattle.span.specs.declared.fault.Operation.the-variants.{Sum};
+ghost use Rattle.span.specs.Spans.{Answers, ends};
+ghost use Rattle.audit.specs.Rows.{Audited, due-row, dropped-end};
 use span::Fault;
 use span::Scale;
 use span::Span;
@@ -25,7 +28,7 @@ pub struct Finding {
 pub fn audit<T: Scale>(guess: i64, sums: Span) -> Result<Finding, Fault>
     ensures { λ r. ⌜ Audited (T·Scale .unit) guess sums r ⌝ }
 {
-    let due = Span::point(guess).add(sums.bring_back::<T>())?;
+    let due = due_row::<T>(guess, sums)?;
     let dropped_low = dropped_end::<T>(guess, sums.low());
     let dropped_high = dropped_end::<T>(guess, sums.high());
     Ok(Finding {
@@ -33,6 +36,13 @@ pub fn audit<T: Scale>(guess: i64, sums: Span) -> Result<Finding, Fault>
         dropped_low,
         dropped_high,
     })
+}
+
+// The row as it must be printed.
+fn due_row<T: Scale>(guess: i64, sums: Span) -> Result<Span, Fault>
+    ensures { λ r. ⌜ Answers r (due-row (T·Scale .unit) guess (ends sums)) (TooLarge Sum) ⌝ }
+{
+    Span::point(guess).add(sums.bring_back::<T>())
 }
 
 // An end with its remainder dropped.

@@ -16,7 +16,7 @@ pub enum Line<'a> {
 }
 
 impl Line<'_> {
-    pub fn of<'a>(heap: Global, bytes: &'a [u8]) -> Result<Line<'a>, AllocError> {
+    pub(crate) fn of<'a>(heap: Global, bytes: &'a [u8]) -> Result<Line<'a>, AllocError> {
         if bytes.trim_ascii_start().starts_with(b"#") {
             return Ok(Line::NoCall);
         }

@@ -29,7 +29,7 @@ pub enum Misuse {
 impl Settings {
     // The words of the command line, the program's own name first. Where a scale is given
     // twice, the first counts.
-    pub fn read(heap: Global, words: Args) -> Result<Settings, Misuse> {
+    pub(crate) fn read(heap: Global, words: Args) -> Result<Settings, Misuse> {
         let mut settings = Settings {
             answers: false,
             help: false,
@@ -70,7 +70,7 @@ impl Settings {
 }
 
 // The scale that an input's first line asks for, as `#! --scale binary`.
-pub fn first_line(heap: Global, line: &[u8]) -> Result<Option<Measure>, Misuse> {
+pub(crate) fn first_line(heap: Global, line: &[u8]) -> Result<Option<Measure>, Misuse> {
     let Some(bytes) = line.strip_prefix(b"#!") else {
         return Ok(None);
     };

@@ -19,7 +19,7 @@ use wording::mistaken;
 use wording::told;
 
 // Does the calls of one input, whose lines were read.
-pub fn input(
+pub(crate) fn input(
     rt: &LibcRuntime,
     settings: &Settings,
     name: &str,
@@ -116,7 +116,7 @@ fn done(
 }
 
 // The last line, where rows were looked at.
-pub fn rows(rt: &LibcRuntime, tally: &Tally) -> io::Result<()> {
+pub(crate) fn rows(rt: &LibcRuntime, tally: &Tally) -> io::Result<()> {
     if tally.rows == 0 {
         return Ok(());
     }

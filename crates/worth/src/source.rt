@@ -6,11 +6,11 @@ use std::io::BufRead;
 use std::io::BufReader;
 use std::io::Read;
 
-pub fn of_file(rt: &LibcRuntime, path: &str) -> io::Result<Vec<Vec<u8>>> {
+pub(crate) fn of_file(rt: &LibcRuntime, path: &str) -> io::Result<Vec<Vec<u8>>> {
     lines(rt.alloc(), fs::open(rt, path)?)
 }
 
-pub fn of_stdin(rt: &LibcRuntime) -> io::Result<Vec<Vec<u8>>> {
+pub(crate) fn of_stdin(rt: &LibcRuntime) -> io::Result<Vec<Vec<u8>>> {
     lines(rt.alloc(), rt.stdin())
 }
 

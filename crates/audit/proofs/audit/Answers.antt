@@ -8,7 +8,7 @@ use mir.Val.{SFits}
 use Rattle.std.proofs.shelf.Signed.{toZ-ofZ}
 use Rattle.span.specs.Spans.{ends}
 use Rattle.audit.specs.Rows.{due-row}
-use Rattle.audit.proofs.Drops.{dropped-fits, end-is, found, row-is}
+use Rattle.audit.proofs.Drops.{dropped-fits, end-is, found}
 use Rattle.audit.proofs.audit.Needs as need
 
 pub dropped-end-dropped-low-requires : need.dropped-end-dropped-low-requires
@@ -18,7 +18,7 @@ dropped-end-dropped-low-requires g c κs =
     let guess : SFits w64 (c .args .guess) = search needs in
     let low : SFits w64 (c .args .sums .low) = search needs in
     let high : SFits w64 (c .args .sums .high) = search needs in
-    let due : ends (c .in-Continue-due .due) ≡ due-row S (c .args .guess) (ends (c .args .sums)) = row-is _ (ends (c .point .result)) (ends (c .bring-back .result)) (ends (c .args .sums)) S (c .args .guess) guess (c .in-Continue-due .ensures tt .value) (c .point .ensures) (c .bring-back .ensures .value) in
+    let due : ends (c .in-Continue-due .due) ≡ due-row S (c .args .guess) (ends (c .args .sums)) = simp toZ-ofZ at (c .in-Continue-due .ensures tt) in
     simp (c .low .ensures, toZ-ofZ) (dropped-fits S (c .args .guess) (c .args .sums .low) (ends (c .args .sums)) (c .in-Continue-due .due) some (≤ℤ-refl _) (c .args .sums .ordered) due (search needs) (search needs))
 
 pub dropped-end-dropped-high-requires : need.dropped-end-dropped-high-requires
@@ -28,7 +28,7 @@ dropped-end-dropped-high-requires g c κs =
     let guess : SFits w64 (c .args .guess) = search needs in
     let low : SFits w64 (c .args .sums .low) = search needs in
     let high : SFits w64 (c .args .sums .high) = search needs in
-    let due : ends (c .in-Continue-due .due) ≡ due-row S (c .args .guess) (ends (c .args .sums)) = row-is _ (ends (c .point .result)) (ends (c .bring-back .result)) (ends (c .args .sums)) S (c .args .guess) guess (c .in-Continue-due .ensures tt .value) (c .point .ensures) (c .bring-back .ensures .value) in
+    let due : ends (c .in-Continue-due .due) ≡ due-row S (c .args .guess) (ends (c .args .sums)) = simp toZ-ofZ at (c .in-Continue-due .ensures tt) in
     simp (c .high .ensures, toZ-ofZ) (dropped-fits S (c .args .guess) (c .args .sums .high) (ends (c .args .sums)) (c .in-Continue-due .due) some (c .args .sums .ordered) (≤ℤ-refl _) due (search needs) (search needs))
 
 pub returns : need.returns
@@ -38,7 +38,7 @@ returns g c =
     let guess : SFits w64 (c .args .guess) = search needs in
     let low : SFits w64 (c .args .sums .low) = search needs in
     let high : SFits w64 (c .args .sums .high) = search needs in
-    let due : ends (c .in-Continue-due .due) ≡ due-row S (c .args .guess) (ends (c .args .sums)) = row-is _ (ends (c .point .result)) (ends (c .bring-back .result)) (ends (c .args .sums)) S (c .args .guess) guess (c .in-Continue-due .ensures tt .value) (c .point .ensures) (c .bring-back .ensures .value) in
+    let due : ends (c .in-Continue-due .due) ≡ due-row S (c .args .guess) (ends (c .args .sums)) = simp toZ-ofZ at (c .in-Continue-due .ensures tt) in
     found S (c .args .guess) _ _ (c .args .sums) (c .in-Continue-due .due) some due
     (end-is S (c .args .guess) (c .args .sums .low) (c .low .result) (c .dropped-end-dropped-low .result) guess low (search needs) (c .low .ensures) (c .dropped-end-dropped-low .ensures))
     (end-is S (c .args .guess) (c .args .sums .high) (c .high .result) (c .dropped-end-dropped-high .result) guess high (search needs) (c .high .ensures) (c .dropped-end-dropped-high .ensures))
