@@ -3,3 +3,4 @@ pub mod Fractions
 pub mod Limits
 pub mod Method
 pub mod Sound
+pub mod Trials

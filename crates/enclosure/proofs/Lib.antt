@@ -1,0 +1,10 @@
+pub mod Asked
+pub mod Rows
+pub mod Reach
+pub mod Meant
+pub mod Grows
+pub mod Verdict
+pub mod Accepts
+pub mod Tells
+pub mod Scales
+pub mod Runs
