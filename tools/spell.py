@@ -50,7 +50,7 @@ def own_names():
                 for g in BOUND.findall(line):
                     found += g.split()
                 found += LET.findall(line)
-                names.update(n for n in found if "-" in n.strip("-") and not n.startswith(("c.", "goal")))
+                names.update(n for n in found if "-" in n.strip("-") and "◌" not in n and not n.startswith(("c.", "goal")))
     return names
 
 

@@ -1,4 +1,6 @@
 // Lines of calls about a game: what a line's words ask of a docket.
+#![tactic(auto)]
+
 mod asked;
 mod figure;
 mod fixed;

@@ -1,5 +1,7 @@
 // An old row looked at again: what it must read, what dropping remainders made of it, and
 // whether an end had moved inward.
+#![tactic(auto)]
+
 ghost use Rattle.std.specs.Prelude.{◌≡◌, FitsSigned, int_lt};
 ghost use Rattle.std.specs.Int.{w64};
 ghost use Rattle.span.specs.declared.fault.Fault.TheVariants.{TooLarge};

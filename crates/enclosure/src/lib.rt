@@ -1,4 +1,6 @@
 // Enclosures: trial boxes, the runs that look for one, and the ranges that are held.
+#![tactic(auto)]
+
 mod boxes;
 mod enclosure;
 mod fault;

@@ -1,4 +1,6 @@
 // Runs the worked figures of the rules and prints what they come to.
+#![tactic(auto)]
+
 mod enclosing;
 mod worked;
 

@@ -1,4 +1,6 @@
 // Runs the worked figures of posts and sheets and prints what they come to.
+#![tactic(auto)]
+
 mod filed;
 
 use std::io;

@@ -1,4 +1,6 @@
 // A filing: a run of calls on a new docket, with the law that holds over every such run.
+#![tactic(auto)]
+
 mod running;
 mod step;
 

@@ -1,4 +1,6 @@
 // Answers the calls of standard input, or of each game file named.
+#![tactic(auto)]
+
 mod accepted;
 mod game;
 mod input;

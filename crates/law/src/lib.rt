@@ -1,4 +1,6 @@
 // What is asked of a docket, what it answers, and what the calls as they are counted say.
+#![tactic(auto)]
+
 mod answer;
 mod ask;
 mod call;

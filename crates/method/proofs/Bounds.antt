@@ -1,7 +1,7 @@
 -- how large every figure of the method gets under the limits of the questions, partial sums included; all of it fits signed 64 bits
 use Rattle.std.proofs.Common.{ℕ, suc, ◌*◌, ◌^◌, ◌<◌, ◌≤◌, Bool, true, false, cond, eqb, ℤ, pos, ◌-ℤ◌, ◌*ℤ◌, nat_abs, le_refl, mul-le-mul_right, mul-le-mul, arith, w64, SFits}
 use borrow.Author.Differences.{ints}
-use Rattle.span.specs.Intervals.{Interval, point, ◌+ᵢ◌, ◌_ᵢ◌, ◌*ᵢ◌}
+use Rattle.span.specs.Intervals.{Interval, point, ◌+ᵢ◌, ◌-ᵢ◌, ◌*ᵢ◌}
 use Rattle.span.specs.Spans.{Fits}
 use Rattle.method.specs.Sums.{int_sum, sumᵢ}
 use Rattle.method.specs.Method.{Game, Proposal, size, leftover, correction, residual, product, iteration, step}

@@ -2,7 +2,7 @@
 use Rattle.std.proofs.Common.{◌≡◌, ℕ, zero, suc, ◌+◌, ◌*◌, ◌<◌, ◌≤◌, ℤ, pos, ◌+ℤ◌, ◌-ℤ◌, ◌*ℤ◌, neg_ℤ, ◌≤ℤ◌, subst, arith}
 use native.Mathlib.Nat.{le_of_mul-le-mul_left}
 use borrow.Author.Differences.{up, down, ints}
-use Rattle.span.specs.Intervals.{Interval, In, point, ◌+ᵢ◌, ◌_ᵢ◌}
+use Rattle.span.specs.Intervals.{Interval, In, point, ◌+ᵢ◌, ◌-ᵢ◌}
 use Rattle.span.proofs.Integers.{lin, scaled, *ℤ_add_right, *ℤ_neg_right, *ℤ_assoc}
 use Rattle.method.specs.Sums.{int_sum, sumᵢ}
 

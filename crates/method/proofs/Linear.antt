@@ -1,6 +1,6 @@
 -- the exact figures of the method at one choice, as fractions, and the intervals that hold them
 use Rattle.std.proofs.Common.{◌≡◌, ℕ, suc, ◌*◌, ◌<◌, cond, eqb, ℤ, pos, ◌+ℤ◌, ◌-ℤ◌, ◌*ℤ◌, sym, refl, one-mul, arith}
-use Rattle.span.specs.Intervals.{Interval, In, point, ◌+ᵢ◌, ◌_ᵢ◌, ◌*ᵢ◌}
+use Rattle.span.specs.Intervals.{Interval, In, point, ◌+ᵢ◌, ◌-ᵢ◌, ◌*ᵢ◌}
 use Rattle.span.proofs.Integers.{lin, *ℤ_add_right, *ℤ_left_comm}
 use Rattle.span.proofs.Contains.{in_brought, in_product}
 use Rattle.method.specs.Sums.{int_sum, sumᵢ}

@@ -2,7 +2,7 @@
 use Rattle.std.proofs.Common.{◌≡◌, ℕ, zero, suc, ◌+◌, ◌*◌, ◌<◌, ◌≤◌, max, ℤ, pos, negsuc, ◌+ℤ◌, ◌-ℤ◌, ◌*ℤ◌, neg_ℤ, nat_abs, ◌≤ℤ◌, refl, inl, inr, le_refl, mul-le-mul, eq-or-lt_of_le, arith}
 use native.Mathlib.Nat.{max_le}
 use Rattle.std.proofs.lemmas.Int.{clamps}
-use Rattle.span.specs.Intervals.{Interval, point, ◌+ᵢ◌, ◌_ᵢ◌, ◌*ᵢ◌, brought, least, greatest}
+use Rattle.span.specs.Intervals.{Interval, point, ◌+ᵢ◌, ◌-ᵢ◌, ◌*ᵢ◌, brought, least, greatest}
 use Rattle.span.specs.Rounding.{floor, ceiling}
 use Rattle.span.proofs.Integers.{lin, *ℤ_neg_right}
 use Rattle.span.proofs.Floors.{floor_greatest, ceiling_least, floor_ceiling}

@@ -1,7 +1,7 @@
 -- what is computed from the equations, the settings' ranges, a proposal and a trial box; all figures count units, S to a whole
 use Rattle.std.specs.Prelude.{ℕ, zero, suc, ◌+◌, ◌*◌, ◌<◌, ◌≤◌, max, cond, ℤ, pos, ◌-ℤ◌, ◌*ℤ◌, neg_ℤ, ◌<ℤ◌, ◌==◌, unsigned_abs}
 use Rattle.method.specs.Sums.{int_sum, nat_sum, sumᵢ}
-use Rattle.span.specs.Intervals.{Interval, point, ◌+ᵢ◌, ◌_ᵢ◌, ◌*ᵢ◌, brought}
+use Rattle.span.specs.Intervals.{Interval, point, ◌+ᵢ◌, ◌-ᵢ◌, ◌*ᵢ◌, brought}
 
 -- A(p) x = b(p) with n states and k settings: `matrix v i j` and `payout v i` for part v, row i and column j, part 0
 -- being the fixed one; `range v` for the settings 1 to k

@@ -1,6 +1,6 @@
 -- sums of intervals, a term at a time
 use Rattle.std.proofs.Common.{◌≡◌, ℕ, zero, suc, ◌+◌, ◌<◌, Bool, ℤ, pos, ◌+ℤ◌, ◌-ℤ◌, sym, refl, ap, ◌∙◌, add-one, arith}
-use Rattle.span.specs.Intervals.{Interval, point, ◌+ᵢ◌, ◌_ᵢ◌, ◌*ᵢ◌}
+use Rattle.span.specs.Intervals.{Interval, point, ◌+ᵢ◌, ◌-ᵢ◌, ◌*ᵢ◌}
 use Rattle.span.specs.Questions.{ends_within}
 use Rattle.span.specs.Spans.{Fits}
 use Rattle.span.proofs.Integers.{lin}

@@ -1,7 +1,7 @@
 -- the sums of the method as far as they have come, m terms
 use Rattle.std.specs.Prelude.{ℕ, suc, ◌*◌, cond, List, pos, ◌==◌}
 use Rattle.span.specs.declared.span.Span.{Span}
-use Rattle.span.specs.Intervals.{Interval, point, ◌+ᵢ◌, ◌_ᵢ◌, ◌*ᵢ◌}
+use Rattle.span.specs.Intervals.{Interval, point, ◌+ᵢ◌, ◌-ᵢ◌, ◌*ᵢ◌}
 use Rattle.method.specs.Method.{Game, Proposal, correction, product}
 use Rattle.method.specs.Sums.{sumᵢ}
 use Rattle.system.specs.Figures.{spans}

@@ -1,4 +1,6 @@
 // From a system and a proposal to its residual and iteration matrix.
+#![tactic(auto)]
+
 mod fault;
 mod iteration;
 mod prepared;

@@ -1,6 +1,6 @@
 // Sums of products, exact until they are brought back.
 ghost use Rattle.std.specs.Prelude.{◌≡◌, ℕ, suc, ◌+◌, ◌*◌, ◌^◌, ◌<◌, ◌≤◌, ◌&&◌, pos, ◌*ℤ◌, slice_index_or, unsigned_abs};
-ghost use Rattle.span.specs.Intervals.{◌+ᵢ◌, ◌_ᵢ◌, ◌*ᵢ◌, point};
+ghost use Rattle.span.specs.Intervals.{◌+ᵢ◌, ◌-ᵢ◌, ◌*ᵢ◌, point};
 ghost use Rattle.span.specs.Questions.{ends_within};
 ghost use Rattle.span.specs.Spans.{Fits, ends};
 ghost use Rattle.system.specs.Figures.{spans};

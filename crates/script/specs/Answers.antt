@@ -4,7 +4,7 @@ use Rattle.span.specs.declared.fault.Fault.{Fault}
 use Rattle.span.specs.declared.fault.Fault.TheVariants.{TooLarge}
 use Rattle.span.specs.declared.fault.Operation.TheVariants.{Sum, Difference, Product}
 use Rattle.span.specs.declared.span.Span.{Span}
-use Rattle.span.specs.Intervals.{◌+ᵢ◌, ◌_ᵢ◌, ◌*ᵢ◌}
+use Rattle.span.specs.Intervals.{◌+ᵢ◌, ◌-ᵢ◌, ◌*ᵢ◌}
 use Rattle.span.specs.Rounding.{floor, ceiling}
 use Rattle.audit.specs.declared.Finding.{Finding}
 use Rattle.script.specs.declared.answer.Answer.{Answer}
@@ -29,7 +29,7 @@ abbrev pub Answered : ℕ → Call → Result Answer Fault → Type 0
 Answered S (call.Bring v) r = r ≡ Ok (answer.Figures (floor S v) (ceiling S v))
 Answered S (call.Span low high) r = RangeOf r (λ q. Pair low high q (Ranged (from_to low high) q))
 Answered S (call.SpanAdd a b c d) r = RangeOf r (Both a b c d ◌+ᵢ◌ (TooLarge Sum))
-Answered S (call.SpanSub a b c d) r = RangeOf r (Both a b c d ◌_ᵢ◌ (TooLarge Difference))
+Answered S (call.SpanSub a b c d) r = RangeOf r (Both a b c d ◌-ᵢ◌ (TooLarge Difference))
 Answered S (call.SpanMul a b c d) r = RangeOf r (Both a b c d ◌*ᵢ◌ (TooLarge Product))
 Answered S (call.SpanBack low high) r = RangeOf r (Brought S low high)
 Answered S (call.Audit guess low high) r = (q : Result Finding Fault) × (r ≡ as_row q) × Row S guess low high q

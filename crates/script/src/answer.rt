@@ -2,7 +2,7 @@
 ghost use Rattle.std.specs.Prelude.{◌≡◌};
 ghost use Rattle.span.specs.declared.fault.Fault.TheVariants.{TooLarge};
 ghost use Rattle.span.specs.declared.fault.Operation.TheVariants.{Sum, Difference, Product};
-ghost use Rattle.span.specs.Intervals.{◌+ᵢ◌, ◌_ᵢ◌, ◌*ᵢ◌};
+ghost use Rattle.span.specs.Intervals.{◌+ᵢ◌, ◌-ᵢ◌, ◌*ᵢ◌};
 ghost use Rattle.script.specs.Answers.{Answered, as_range, as_row};
 ghost use Rattle.script.specs.Pairs.{Pair, Both, Brought, Row};
 
@@ -56,7 +56,7 @@ fn sum(a: i64, b: i64, c: i64, d: i64) -> Result<Span, Fault>
 }
 
 fn difference(a: i64, b: i64, c: i64, d: i64) -> Result<Span, Fault>
-    ensures { Both a b c d ◌_ᵢ◌ (TooLarge Difference) result }
+    ensures { Both a b c d ◌-ᵢ◌ (TooLarge Difference) result }
 {
     Span::new(a, b)?.subtract(Span::new(c, d)?)
 }

@@ -1,4 +1,6 @@
 // Lines of calls: what a line asks for, and what it answers.
+#![tactic(auto)]
+
 mod answer;
 mod call;
 mod kind;

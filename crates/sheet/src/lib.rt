@@ -1,4 +1,6 @@
 // Sheets: a filing as bytes, written from a docket and rechecked on another.
+#![tactic(auto)]
+
 mod bytes;
 mod fault;
 mod framed;

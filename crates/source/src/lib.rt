@@ -1,4 +1,6 @@
 // Sources of coefficients: what every source means, and the two that there are.
+#![tactic(auto)]
+
 mod entry;
 mod fault;
 mod grid;

@@ -1,12 +1,12 @@
 -- what lies in two intervals lies, combined, in what the intervals give
-use Rattle.std.proofs.Common.{◌≡◌, ℕ, ◌+◌, ◌*◌, ◌<◌, ◌≤◌, ◌⊎◌, ℤ, pos, negsuc, ◌+ℤ◌, ◌-ℤ◌, ◌*ℤ◌, ◌≤ℤ◌, inl, inr, arith, w64, SFits}
+use Rattle.std.proofs.Common.{◌≡◌, ℕ, ◌*◌, ◌<◌, ◌⊎◌, ℤ, pos, negsuc, ◌+ℤ◌, ◌-ℤ◌, ◌*ℤ◌, ◌≤ℤ◌, inl, inr, arith, w64, SFits}
 use lib.IntN.{*ℤ_comm}
 use Rattle.std.proofs.lemmas.Int.{clamps}
 use borrow.Author.Differences.{ints}
 use Rattle.span.specs.Encloses.{Sums, Differences, Products, Quotients}
 use Rattle.span.specs.Rounding.{floor, ceiling}
 use Rattle.span.specs.Spans.{Fits}
-use Rattle.span.specs.Intervals.{Interval, ◌+ᵢ◌, ◌_ᵢ◌, ◌*ᵢ◌, brought, least, greatest}
+use Rattle.span.specs.Intervals.{Interval, ◌+ᵢ◌, ◌-ᵢ◌, ◌*ᵢ◌, brought, least, greatest}
 use Rattle.span.proofs.Integers.{lin, expand, scaled, turned, *ℤ_assoc}
 use Rattle.span.proofs.Floors.{floor_greatest, ceiling_least}
 

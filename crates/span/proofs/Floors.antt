@@ -1,5 +1,5 @@
 -- floor and ceiling are the greatest figure not above, and the least not below
-use Rattle.std.proofs.Common.{ℕ, ◌+◌, ◌*◌, ◌<◌, ◌≤◌, ℤ, pos, negsuc, ◌+ℤ◌, ◌*ℤ◌, neg_ℤ, ◌≤ℤ◌, ◌<ℤ◌, mod-lt, mul-le-mul_left, arith}
+use Rattle.std.proofs.Common.{ℕ, ◌+◌, ◌<◌, ◌≤◌, ℤ, pos, negsuc, ◌+ℤ◌, ◌*ℤ◌, neg_ℤ, ◌≤ℤ◌, ◌<ℤ◌, mod-lt, mul-le-mul_left, arith}
 use native.Mathlib.Nat.{div-add-mod}
 use borrow.Author.Differences.{up, down, ints}
 use Rattle.std.proofs.lemmas.Int.{by_lt_z}

@@ -3,7 +3,7 @@ use Rattle.std.specs.Prelude.{◌≡◌, ℕ, ℤ, pos, ◌+ℤ◌, ◌-ℤ◌, 
 use Rattle.std.specs.Int.{int_max, int_min}
 use Rattle.span.specs.Rounding.{floor, ceiling}
 
-infixl 6 ◌+ᵢ◌ ◌_ᵢ◌
+infixl 6 ◌+ᵢ◌ ◌-ᵢ◌
 infixl 7 ◌*ᵢ◌
 pub record Interval : Type 0 where
   pub low : ℤ
@@ -17,7 +17,7 @@ abbrev pub ◌+ᵢ◌ : Interval → Interval → Interval
 s +ᵢ t = record { low = s.low +ℤ t.low; high = s.high +ℤ t.high }
 
 -- a difference takes low minus high and high minus low
-abbrev pub ◌_ᵢ◌ : Interval → Interval → Interval
+abbrev pub ◌-ᵢ◌ : Interval → Interval → Interval
 s -ᵢ t = record { low = s.low -ℤ t.high; high = s.high -ℤ t.low }
 
 abbrev pub least : ℤ → ℤ → ℤ → ℤ → ℤ

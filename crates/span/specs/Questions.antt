@@ -1,5 +1,5 @@
 -- questions with the fault of each no; the first no decides
-use Rattle.std.specs.Prelude.{ℕ, zero, suc, ◌*◌, ◌≤◌, Bool, cond, ◌&&◌, List, [], ◌∷◌, ◌++◌, ℤ, Some, None, Option, nat_le, unsigned_abs}
+use Rattle.std.specs.Prelude.{ℕ, zero, suc, ◌*◌, Bool, cond, ◌&&◌, List, [], ◌∷◌, ◌++◌, ℤ, Some, None, Option, nat_le, unsigned_abs}
 use Rattle.span.specs.Intervals.{Interval}
 
 pub record Question (F : Type 0) : Type 0 where

@@ -1,4 +1,6 @@
 // Scales and spans: the exact arithmetic that every printed figure stands on.
+#![tactic(auto)]
+
 mod fault;
 mod scale;
 mod span;

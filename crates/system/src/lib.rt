@@ -1,4 +1,6 @@
 // A game's figures: the coefficients and settings of A(p) x = b(p), kept within their limits.
+#![tactic(auto)]
+
 mod fault;
 mod system;
 

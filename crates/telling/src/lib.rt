@@ -1,4 +1,6 @@
 // How a docket's replies, and mistakes in lines that ask of it, are worded.
+#![tactic(auto)]
+
 mod lines;
 mod mistakes;
 mod replies;

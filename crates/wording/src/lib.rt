@@ -1,4 +1,6 @@
 // How answers, refusals and mistakes are worded.
+#![tactic(auto)]
+
 mod grouping;
 mod moved;
 mod phrases;

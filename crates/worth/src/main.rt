@@ -1,4 +1,6 @@
 // Answers the calls of standard input, or of each file named.
+#![tactic(auto)]
+
 mod line;
 mod measure;
 mod options;

@@ -4,7 +4,7 @@ ghost use Rattle.std.specs.Int.{w64};
 ghost use Rattle.span.specs.declared.fault.Fault.TheVariants.{LowAboveHigh, TooLarge};
 ghost use Rattle.span.specs.declared.fault.Operation.TheVariants.{Sum, Difference, Product};
 ghost use Rattle.span.specs.Encloses.{Sums, Differences, Products, Quotients};
-ghost use Rattle.span.specs.Intervals.{EndProducts, Interval, point, ◌+ᵢ◌, ◌_ᵢ◌, ◌*ᵢ◌, brought, least, greatest};
+ghost use Rattle.span.specs.Intervals.{EndProducts, Interval, point, ◌+ᵢ◌, ◌-ᵢ◌, ◌*ᵢ◌, brought, least, greatest};
 ghost use Rattle.span.specs.Rounding.{GreatestNotAbove, LeastNotBelow, ceiling, floor};
 ghost use Rattle.span.specs.Spans.{Answers, Ends, Fits, ends};
 

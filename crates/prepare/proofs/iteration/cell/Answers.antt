@@ -1,5 +1,5 @@
 use Rattle.std.proofs.Common.{◌≡◌, ℕ, suc, ◌+◌, ◌*◌, ◌≤◌, cond, eqb, pos, sym, ap, ◌∙◌, add-one, arith, lit≤}
-use Rattle.span.specs.Intervals.{Interval, point, ◌*ᵢ◌, ◌_ᵢ◌, brought}
+use Rattle.span.specs.Intervals.{Interval, point, ◌*ᵢ◌, ◌-ᵢ◌, brought}
 use Rattle.method.specs.Method as method
 use Rattle.method.proofs.Bounds.{interval_fits_by, iteration_fixed, iteration_term, iteration_difference, iteration_whole}
 use Rattle.prepare.specs.Numbers.{offered}

@@ -2,7 +2,7 @@ use Rattle.std.proofs.Common.{Err, ap, ◌∙◌, rules}
 use Rattle.std.proofs.lemmas.Result.{err_from_is_err_and}
 use Rattle.span.specs.declared.fault.Fault.TheVariants.{TooLarge}
 use Rattle.span.specs.declared.fault.Operation.TheVariants.{Difference}
-use Rattle.span.specs.Intervals.{◌_ᵢ◌}
+use Rattle.span.specs.Intervals.{◌-ᵢ◌}
 use Rattle.script.proofs.Standing.{both_stand, second_turned}
 use Rattle.script.proofs.answer.difference.Goals as goal
 
@@ -13,4 +13,4 @@ returns-in-err-new-2 c =
 
 pub returns : goal.returns
 returns c =
-    both_stand c.args.a c.args.b c.args.c c.args.d ◌_ᵢ◌ (TooLarge Difference) c.in-ok-new.field-0 c.in-ok-new-2.field-0 c.subtract.result (search rules) (search rules) (search rules) (search rules) c.in-ok-new.ensures c.in-ok-new-2.ensures c.subtract.ensures.value
+    both_stand c.args.a c.args.b c.args.c c.args.d ◌-ᵢ◌ (TooLarge Difference) c.in-ok-new.field-0 c.in-ok-new-2.field-0 c.subtract.result (search rules) (search rules) (search rules) (search rules) c.in-ok-new.ensures c.in-ok-new-2.ensures c.subtract.ensures.value

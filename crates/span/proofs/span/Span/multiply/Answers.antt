@@ -13,24 +13,24 @@ least_read s t a b c d r fa fb fc fd fr h e = simp to_z-of_z ((simp to_z-of_z at
 greatest_read : (s t : Interval) (a b c d r : ℤ) → SFits w64 a → SFits w64 b → SFits w64 c → SFits w64 d → SFits w64 r → EndProducts s t a b c d → r ≡ greatest (to_z w64 (of_z w64 a)) (to_z w64 (of_z w64 b)) (to_z w64 (of_z w64 c)) (to_z w64 (of_z w64 d)) → to_z w64 (of_z w64 r) ≡ greatest (s.low *ℤ t.low) (s.low *ℤ t.high) (s.high *ℤ t.low) (s.high *ℤ t.high)
 greatest_read s t a b c d r fa fb fc fd fr h e = simp to_z-of_z ((simp to_z-of_z at e) ∙ simp (h.low_low, h.low_high, h.high_low, h.high_high))
 
-pub invariant-of-result : goal.invariant-of-result
+pub invariant_of-result : goal.invariant_of-result
 unfolding ◌*ᵢ◌
-invariant-of-result c =
+invariant_of-result c =
     let s : Interval = ends c.args.self in
     let t : Interval = ends c.args.other in
-    let h = c.in-ok-a.ensures in
-    let lo : to_z w64 (of_z w64 c.least-of.result) ≡ least (s.low *ℤ t.low) (s.low *ℤ t.high) (s.high *ℤ t.low) (s.high *ℤ t.high) = least_read s t c.in-ok-a.a c.in-ok-a.b c.in-ok-a.c c.in-ok-a.d c.least-of.result (search rules) (search rules) (search rules) (search rules) (search rules) h c.least-of.ensures in
-    let go : to_z w64 (of_z w64 c.greatest_of.result) ≡ greatest (s.low *ℤ t.low) (s.low *ℤ t.high) (s.high *ℤ t.low) (s.high *ℤ t.high) = greatest_read s t c.in-ok-a.a c.in-ok-a.b c.in-ok-a.c c.in-ok-a.d c.greatest_of.result (search rules) (search rules) (search rules) (search rules) (search rules) h c.greatest_of.ensures in
-    (rw (lo, go) (product_ordered s t), tt)
+    let h = c.in_ok-a.ensures in
+    let lo : to_z w64 (of_z w64 c.least_of.result) ≡ least (s.low *ℤ t.low) (s.low *ℤ t.high) (s.high *ℤ t.low) (s.high *ℤ t.high) = least_read s t c.in_ok-a.a c.in_ok-a.b c.in_ok-a.c c.in_ok-a.d c.least_of.result (search rules) (search rules) (search rules) (search rules) (search rules) h c.least_of.ensures in
+    let go : to_z w64 (of_z w64 c.greatest_of.result) ≡ greatest (s.low *ℤ t.low) (s.low *ℤ t.high) (s.high *ℤ t.low) (s.high *ℤ t.high) = greatest_read s t c.in_ok-a.a c.in_ok-a.b c.in_ok-a.c c.in_ok-a.d c.greatest_of.result (search rules) (search rules) (search rules) (search rules) (search rules) h c.greatest_of.ensures in
+    record { ordered = rw (lo, go) (product_ordered s t) }
 
 pub returns : goal.returns
 unfolding ◌*ᵢ◌
 returns c =
     let s : Interval = ends c.args.self in
     let t : Interval = ends c.args.other in
-    let h = c.in-ok-a.ensures in
-    let lo : to_z w64 (of_z w64 c.least-of.result) ≡ least (s.low *ℤ t.low) (s.low *ℤ t.high) (s.high *ℤ t.low) (s.high *ℤ t.high) = least_read s t c.in-ok-a.a c.in-ok-a.b c.in-ok-a.c c.in-ok-a.d c.least-of.result (search rules) (search rules) (search rules) (search rules) (search rules) h c.least-of.ensures in
-    let go : to_z w64 (of_z w64 c.greatest_of.result) ≡ greatest (s.low *ℤ t.low) (s.low *ℤ t.high) (s.high *ℤ t.low) (s.high *ℤ t.high) = greatest_read s t c.in-ok-a.a c.in-ok-a.b c.in-ok-a.c c.in-ok-a.d c.greatest_of.result (search rules) (search rules) (search rules) (search rules) (search rules) h c.greatest_of.ensures in
+    let h = c.in_ok-a.ensures in
+    let lo : to_z w64 (of_z w64 c.least_of.result) ≡ least (s.low *ℤ t.low) (s.low *ℤ t.high) (s.high *ℤ t.low) (s.high *ℤ t.high) = least_read s t c.in_ok-a.a c.in_ok-a.b c.in_ok-a.c c.in_ok-a.d c.least_of.result (search rules) (search rules) (search rules) (search rules) (search rules) h c.least_of.ensures in
+    let go : to_z w64 (of_z w64 c.greatest_of.result) ≡ greatest (s.low *ℤ t.low) (s.low *ℤ t.high) (s.high *ℤ t.low) (s.high *ℤ t.high) = greatest_read s t c.in_ok-a.a c.in_ok-a.b c.in_ok-a.c c.in_ok-a.d c.greatest_of.result (search rules) (search rules) (search rules) (search rules) (search rules) h c.greatest_of.ensures in
     record {
       value = moved (λ i. i ≡ s *ᵢ t) _ _ _ _ refl lo go;
       ordered = rw (lo, go) (product_ordered s t);
