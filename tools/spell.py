@@ -60,7 +60,7 @@ def library_names():
     for p in sources("antt"):
         with open(p, encoding="utf-8") as f:
             for line in f:
-                m = re.match(r"\s*use\s+(Rattle\.std|borrow|denote|mir|Prim|mathlib|lib|logic)\b.*\.\{(.*)\}", line)
+                m = re.match(r"\s*use\s+(Rattle\.std|native|borrow|denote|mir|Prim|mathlib|lib|logic)\b.*\.\{(.*)\}", line)
                 if m:
                     names.update(w.strip().split(" as ")[0] for w in m.group(2).split(","))
     return names

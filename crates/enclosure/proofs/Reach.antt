@@ -1,7 +1,7 @@
 -- how large a step gets, that its ends come in order, and that a smaller box has a smaller step
 use Rattle.std.proofs.Common.{◌≡◌, ℕ, zero, suc, ◌+◌, ◌*◌, ◌<◌, ◌≤◌, ℤ, pos, ap, ◌∙◌, le_refl, mul-le-mul_right, arith, w64, SFits, to_z, of_z}
 use Rattle.std.proofs.lemmas.Int.{ints, to_z-of_z}
-use native.Mathlib.Nat.{max_le}
+use native.Mathlib.Nat.{max-le}
 use Rattle.span.specs.Intervals.{Interval, point, ◌+ᵢ◌, ◌*ᵢ◌}
 use Rattle.span.specs.Spans.{Fits}
 use Rattle.span.proofs.Contains.{product_ordered}
@@ -62,7 +62,7 @@ next_inside p X Y o h i =
 -- the residual is within 49 wholes
 pub greatest_within : (p : Prepared) (m : ℕ) → greatest_size p m ≤ 49 * p.units
 greatest_within p zero = omega arith
-greatest_within p (suc m) = max_le (greatest_within p m) (p.near m)
+greatest_within p (suc m) = max-le (greatest_within p m) (p.near m)
 
 pub moved_fits : {s t : Interval} → s ≡ t → Fits t → Fits s
 moved_fits e h = rw e h

@@ -1,6 +1,6 @@
 -- the trials of a run, one after another
 use Rattle.std.proofs.Common.{◌≡◌, ℕ, zero, suc, pred, ◌+◌, ◌-◌, ◌*◌, ◌<◌, ◌≤◌, true, false, ◌&&◌, leb, ◌⊎◌, List, [], Some, None, Ok, Err, Result, sym, refl, ap, ◌∙◌, subst, inl, inr, add-one, sub-one, arith}
-use native.Mathlib.Nat.{max_le}
+use native.Mathlib.Nat.{max-le}
 use Rattle.std.proofs.lemmas.Bool.{and_from, and_left, and_right, le-leb, lt-leb}
 use Rattle.span.specs.declared.span.Span.{Span}
 use Rattle.span.specs.Intervals.{Interval}
@@ -93,7 +93,7 @@ pub first_near : (S : ℕ) (G : Game) (H : Proposal) (p : Prepared) → Prepared
 unfolding boxes
 first_near S G H p q some =
     let m : residual_size S G H ≤ 49 * S = subst (λ u. residual_size S G H ≤ 49 * u) q.units (subst (λ n. n ≤ 49 * p.units) (start_size S G H p q) (greatest_within p p.states)) in
-    every_asked G.states _ (λ i l. near_enough S (about_zero (residual_size S G H)) (max_le (omega (arith, lin)) (omega (arith, lin))))
+    every_asked G.states _ (λ i l. near_enough S (about_zero (residual_size S G H)) (max-le (omega (arith, lin)) (omega (arith, lin))))
 
 pub ran : (S : ℕ) (G : Game) (H : Proposal) (p : Prepared) (t : ℕ) (r : Result (ℕ × Enclosure) Fault) → PreparedFor S G H p → 1 ≤ t → t ≤ 10 → Found S G H t r → Ran S G H t r
 unfolding boxes

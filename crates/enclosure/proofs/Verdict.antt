@@ -1,6 +1,6 @@
 -- the code's tests of rows, and its worst end
 use Rattle.std.proofs.Common.{◌≡◌, ℕ, zero, suc, pred, ◌+◌, ◌*◌, ◌<◌, ◌≤◌, Bool, true, false, cond, ◌&&◌, nat_abs, sym, refl, ◌∙◌, inl, inr, eq-or-lt_of_le, add-one, arith}
-use native.Mathlib.Nat.{max_le}
+use native.Mathlib.Nat.{max-le}
 use lib.Signed.{lt_z}
 use Rattle.std.proofs.lemmas.Bool.{and_from, and_left, and_right, and_parts, le-leb, lt-leb, leb-true, cases_lt}
 use Rattle.span.specs.declared.span.Span.{Span}
@@ -23,7 +23,7 @@ near_enough S s h = and_from _ _ (le-leb (nat_abs s.low) (100 * S) (omega arith)
 pub known_near : (S : ℕ) (s : Interval) → ends_within S 100 s ≡ true → size s ≤ 100 * S
 known_near S s e =
     let p = and_parts _ _ e in
-    max_le (leb-true (nat_abs s.low) (100 * S) p.0) (leb-true (nat_abs s.high) (100 * S) p.1)
+    max-le (leb-true (nat_abs s.low) (100 * S) p.0) (leb-true (nat_abs s.high) (100 * S) p.1)
 
 pub every_none : (f : ℕ → Bool) → every 0 f ≡ true
 unfolding every

@@ -3,7 +3,7 @@ use Rattle.std.proofs.Common.{◌≡◌, ℕ, suc, ◌*◌, ◌<◌, cond, eqb, 
 use Rattle.span.specs.Intervals.{Interval}
 use Rattle.span.proofs.Integers.{lin, *ℤ_add_left, *ℤ_add_right, *ℤ_neg_left, *ℤ_neg_right, *ℤ_assoc, *ℤ_left_comm}
 use Rattle.method.specs.Sums.{int_sum}
-use Rattle.method.specs.Method.{Game, Proposal, residual, iteration, step, Accepted}
+use Rattle.method.specs.Method.{Game, Proposal, step, Accepted}
 use Rattle.method.proofs.Narrows.{step_ordered}
 use Rattle.method.proofs.SumLaws.{sum_same, sum_sub, sum_scale, sum_pick, sum_mixed, exchanged, exchanged_right}
 use Rattle.method.proofs.Linear.{Weights, exact_leftover, exact_product, exact_residual, exact_iteration, step_in}

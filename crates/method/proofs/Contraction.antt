@@ -1,6 +1,6 @@
 -- numbers that a table of sizes makes smaller, measured by positive widths, and never smaller than themselves are 0
 use Rattle.std.proofs.Common.{◌≡◌, ℕ, zero, suc, ◌*◌, ◌<◌, ◌≤◌, ◌⊎◌, ap, inl, inr, eq-zero-or-pos, mul-le-mul_left, arith}
-use native.Mathlib.Nat.{le_of_mul-le-mul_left, mul_lt_mul_of_pos_left}
+use native.Mathlib.Nat.{le_of_mul-le-mul_left, mul-lt-mul_of_pos_left}
 use Rattle.method.specs.Sums.{nat_sum}
 use Rattle.method.proofs.SumLaws.{nat_sum_least, nat_sum_scale}
 
@@ -56,7 +56,7 @@ module _ (n N : ℕ) (a : ℕ → ℕ → ℕ) (w e : ℕ → ℕ)
         nat_sum_scale n (w k.at) (λ j. a k.at j * e j),
         nat_sum_least n (λ j. w k.at * (a k.at j * e j)) (λ j. e k.at * (a k.at j * w j)) (λ j h. omega (arith, mul-le-mul_left (a k.at j) (k.most j h))),
         nat_sum_scale n (e k.at) (λ j. a k.at j * w j),
-        mul_lt_mul_of_pos_left (shrinks k.at k.below) p,
+        mul-lt-mul_of_pos_left (shrinks k.at k.below) p,
       )
 
   -- and so everywhere below it

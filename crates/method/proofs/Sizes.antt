@@ -1,6 +1,6 @@
 -- how the size of an integer and of an interval behaves under sums, differences, products and bringing back
 use Rattle.std.proofs.Common.{◌≡◌, ℕ, zero, suc, ◌+◌, ◌*◌, ◌<◌, ◌≤◌, max, ℤ, pos, negsuc, ◌+ℤ◌, ◌-ℤ◌, ◌*ℤ◌, neg_ℤ, nat_abs, ◌≤ℤ◌, refl, inl, inr, le_refl, mul-le-mul, eq-or-lt_of_le, arith}
-use native.Mathlib.Nat.{max_le}
+use native.Mathlib.Nat.{max-le}
 use Rattle.std.proofs.lemmas.Int.{clamps}
 use Rattle.span.specs.Intervals.{Interval, point, ◌+ᵢ◌, ◌-ᵢ◌, ◌*ᵢ◌, brought, least, greatest}
 use Rattle.span.specs.Rounding.{floor, ceiling}
@@ -50,7 +50,7 @@ pub size-- : (s t : Interval) → size (s -ᵢ t) ≤ size s + size t
 size-- s t = omega (arith, natAbs-- s.low t.high, natAbs-- s.high t.low)
 
 least_greatest_within : (k : ℕ) (a b c d : ℤ) → nat_abs a ≤ k → nat_abs b ≤ k → nat_abs c ≤ k → nat_abs d ≤ k → max (nat_abs (least a b c d)) (nat_abs (greatest a b c d)) ≤ k
-least_greatest_within k a b c d p q r s = max_le (omega (arith, lin, clamps)) (omega (arith, lin, clamps))
+least_greatest_within k a b c d p q r s = max-le (omega (arith, lin, clamps)) (omega (arith, lin, clamps))
 
 -- a product of two intervals within a and b is within a × b
 pub size_product : {a b : ℕ} (s t : Interval) → size s ≤ a → size t ≤ b → size (s *ᵢ t) ≤ a * b
@@ -87,7 +87,7 @@ pub size_brought : (S b : ℕ) (s : Interval) → 0 < S → size s ≤ b * S →
 unfolding brought
 size_brought S b s h k =
     let p = size_within (b * S) s k in
-    max_le (floor_ceiling_within S b s.low h p.0).0 (floor_ceiling_within S b s.high h p.1).1
+    max-le (floor_ceiling_within S b s.low h p.0).0 (floor_ceiling_within S b s.high h p.1).1
 
 -- the greatest of f below n is not below f i
 pub greatest_of_above : (n : ℕ) (f : ℕ → ℕ) (i : ℕ) → i < n → f i ≤ greatest_of n f

@@ -1,5 +1,5 @@
 -- why a printed row can be trusted: at most one solution, and any lies in the held ranges
-use Rattle.std.specs.Prelude.{ℕ, suc, ◌+◌, ◌*◌, ◌<◌, ◌≤◌, ℤ, ◌≤ℤ◌}
+use Rattle.std.specs.Prelude.{ℕ, suc, ◌<◌, ℤ, ◌≤ℤ◌}
 use Rattle.span.specs.Intervals.{Interval}
 use Rattle.method.specs.Method.{Game, Proposal, Accepted, narrowed, held, Halved, first_box}
 use Rattle.method.specs.Fractions.{Frac, units, ◌+ᶠ◌, ◌*ᶠ◌, sumᶠ, ◌≈◌, ◌≤ᶠ◌}
