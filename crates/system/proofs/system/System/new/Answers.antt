@@ -5,19 +5,25 @@ use Rattle.system.proofs.Verdicts.{no_none, no_here, no_after}
 use Rattle.system.proofs.Zeros.{narrow_zeros, small_zeros}
 use Rattle.system.proofs.system.System.new.Goals as goal
 
-pub returns-then-not-is-size : goal.returns-then-not-is-size
-returns-then-not-is-size g c =
+pub returns-then-not-is_size : goal.returns-then-not-is_size
+returns-then-not-is_size g c =
     let no : is_size c.args.states c.args.settings ≡ false = cc in
     no_here _ _ _ no
 
-pub invariant-of-result : goal.invariant-of-result
-invariant-of-result g c =
+pub invariant_of-result : goal.invariant_of-result
+invariant_of-result g c =
     let S : ℕ = nat_abs (to_z w64 (of_z w64 c.units.result)) in
     let units : S ≡ g.T.Scale.unit = search rules in
     let least : 2 ≤ S = omega (arith, g.met.T.Scale.least) in
     let most : S ≤ 1048576 = omega (arith, g.met.T.Scale.most) in
     let yes : is_size c.args.states c.args.settings ≡ true = cc in
-    ((least, most), ((grind (arith, nat_tests), grind (arith, nat_tests), grind (arith, nat_tests)), (small_zeros S 1296 _ c.no-coefficients.ensures, (small_zeros (100 * S) 108 _ c.no-payouts.ensures, (narrow_zeros S _ c.zero-ranges.ensures, tt)))))
+    record {
+      scale = (least, most);
+      size = (grind (arith, nat_tests), grind (arith, nat_tests), grind (arith, nat_tests));
+      coefficients = small_zeros S 1296 _ c.no_coefficients.ensures;
+      payments = small_zeros (100 * S) 108 _ c.no_payouts.ensures;
+      reach = narrow_zeros S _ c.zero_ranges.ensures;
+    }
 
 pub returns : goal.returns
 returns g c =

@@ -4,17 +4,17 @@ use Rattle.std.proofs.lemmas.Int.{to_z-of_z}
 use Rattle.std.proofs.lemmas.Bool.{cases_lt}
 use Rattle.system.proofs.system.posts.beyond.Goals as goal
 
-pub returns-then-unsigned-abs-limit : goal.returns-then-unsigned-abs-limit
-returns-then-unsigned-abs-limit c =
+pub returns-then-unsigned_abs-limit : goal.returns-then-unsigned_abs-limit
+returns-then-unsigned_abs-limit c =
     let f : SFits w32 (get_or c.args.numbers.now c.loop-at.at (pos 0)) = search rules in
-    let e : c.unsigned-abs.result ≡ nat_abs (get_or c.args.numbers.now c.loop-at.at (pos 0)) = c.unsigned-abs.ensures.value ∙ ap nat_abs (to_z-of_z w32 _ f) in
-    record { beyond = omega (arith, e, c.if-unsigned-abs-limit.true); before = c.loop-at.invariant }
+    let e : c.unsigned_abs.result ≡ nat_abs (get_or c.args.numbers.now c.loop-at.at (pos 0)) = c.unsigned_abs.ensures.value ∙ ap nat_abs (to_z-of_z w32 _ f) in
+    record { beyond = omega (arith, e, c.if-unsigned_abs-limit.true); before = c.loop-at.invariant }
 
 pub loop-at-preserved : goal.loop-at-preserved
 loop-at-preserved c =
     let f : SFits w32 (get_or c.args.numbers.now c.loop-at.at (pos 0)) = search rules in
-    let e : c.unsigned-abs.result ≡ nat_abs (get_or c.args.numbers.now c.loop-at.at (pos 0)) = c.unsigned-abs.ensures.value ∙ ap nat_abs (to_z-of_z w32 _ f) in
-    let here : nat_abs (get_or c.args.numbers.now c.loop-at.at (pos 0)) ≤ c.args.limit = omega (arith, e, c.if-unsigned-abs-limit.false) in
+    let e : c.unsigned_abs.result ≡ nat_abs (get_or c.args.numbers.now c.loop-at.at (pos 0)) = c.unsigned_abs.ensures.value ∙ ap nat_abs (to_z-of_z w32 _ f) in
+    let here : nat_abs (get_or c.args.numbers.now c.loop-at.at (pos 0)) ≤ c.args.limit = omega (arith, e, c.if-unsigned_abs-limit.false) in
     below_more _ _ c.loop-at.invariant here
 
 pub returns : goal.returns
