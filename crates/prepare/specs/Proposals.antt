@@ -1,6 +1,6 @@
 -- a proposal by its numbers, the questions asked of it, and what is prepared from it
-use Rattle.std.specs.Prelude.{◌≡◌, ℕ, ◌+◌, ◌*◌, ◌/◌, ◌%◌, ◌<◌, ◌≤◌, ◌&&◌, List, [], ◌∷◌, ◌++◌, length, ℤ, pos, Some, None, Ok, Err, Result, ◌==◌, slice_index_or}
-use Rattle.span.specs.Intervals.{Interval, point}
+use Rattle.std.specs.Prelude.{◌≡◌, ℕ, ◌+◌, ◌*◌, ◌/◌, ◌%◌, ◌<◌, ◌≤◌, ◌&&◌, List, ◌∷◌, ◌++◌, length, ℤ, pos, Some, None, Ok, Err, Result, ◌==◌, slice_index_or}
+use Rattle.span.specs.Intervals.{point}
 use Rattle.span.specs.Questions.{Question, ask, first_no, each, within, ends_within}
 use Rattle.method.specs.Method.{Game, Proposal, residual, iteration}
 use Rattle.system.specs.declared.system.System.{System}

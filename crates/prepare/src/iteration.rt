@@ -40,7 +40,7 @@ pub(crate) fn iteration<T: Scale>(
 // Cij = (S × S if i = j, else 0) − S × M(0)ij − Σ(v ≥ 1) pv × M(v)ij, brought back.
 fn cell<T: Scale>(system: &System, proposal: &Proposal, row: usize, column: usize) -> Span
     requires together { Together T.Scale.unit system.now proposal.now }
-    requires row_lt_states { (row < system.now.states) × (column < system.now.states) }
+    requires inside { (row < system.now.states) × (column < system.now.states) }
     ensures { ends result ≡ method.iteration T.Scale.unit (game system.now) (offered proposal.now) row column }
 {
     let fixed = times(
@@ -80,7 +80,7 @@ fn product<T: Scale>(
     column: usize,
 ) -> Span
     requires together { Together T.Scale.unit system.now proposal.now }
-    requires part_le_settings { (part ≤ system.now.settings) × (row < system.now.states) × (column < system.now.states) }
+    requires inside { (part ≤ system.now.settings) × (row < system.now.states) × (column < system.now.states) }
     ensures { ends result ≡ method.product T.Scale.unit (game system.now) (offered proposal.now) part row column }
 {
     let n = system.states();

@@ -72,7 +72,7 @@ fn add_part<T: Scale>(
 // e(v) of one part, row by row.
 fn leftovers<T: Scale>(system: &System, proposal: &Proposal, part: usize) -> [Span; 12]
     requires together { Together T.Scale.unit system.now proposal.now }
-    requires part_le_settings { part ≤ system.now.settings }
+    requires one { part ≤ system.now.settings }
     ensures { Filled system.now.states (method.leftover T.Scale.unit (game system.now) (offered proposal.now) part) (λ i. point (pos 0)) result }
 {
     let mut rows = zero_rows();
@@ -85,7 +85,7 @@ fn leftovers<T: Scale>(system: &System, proposal: &Proposal, part: usize) -> [Sp
 // e(v)i = S × b(v)i − Σj A(v)ij × gj, brought back.
 fn leftover<T: Scale>(system: &System, proposal: &Proposal, part: usize, row: usize) -> Span
     requires together { Together T.Scale.unit system.now proposal.now }
-    requires part_le_settings { (part ≤ system.now.settings) × (row < system.now.states) }
+    requires inside { (part ≤ system.now.settings) × (row < system.now.states) }
     ensures { ends result ≡ method.leftover T.Scale.unit (game system.now) (offered proposal.now) part row }
 {
     let n = system.states();

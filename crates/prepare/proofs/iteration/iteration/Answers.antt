@@ -19,7 +19,10 @@ cell-c-requires g c =
     let s = c.args.system.now in
     let n : c.states-n.result ≡ s.states = c.states-n.ensures in
     let one : 0 < c.states-n.result = omega (arith, s.size.0) in
-    (c.requires, (omega (arith, div_below c.loop-t.t c.states-n.result c.states-n.result one c.loop-t-test.true), omega (arith, mod_below c.loop-t.t c.states-n.result one)))
+    record {
+      together = c.requires;
+      inside = (omega (arith, div_below c.loop-t.t c.states-n.result c.states-n.result one c.loop-t-test.true), omega (arith, mod_below c.loop-t.t c.states-n.result one));
+    }
 
 pub returns-then-not-within : goal.returns-then-not-within
 returns-then-not-within g c =

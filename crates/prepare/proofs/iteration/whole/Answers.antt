@@ -5,8 +5,8 @@ use Rattle.span.specs.Intervals.{point}
 use Rattle.prepare.proofs.Bits.{fits_as, is_product, scale_fits, square_fits}
 use Rattle.prepare.proofs.iteration.whole.Goals as goal
 
-pub overflow-mul-s : goal.overflow-mul-s
-overflow-mul-s g c =
+pub overflow_mul-s : goal.overflow_mul-s
+overflow_mul-s g c =
     let S : ℕ = g.T.Scale.unit in
     let f = scale_fits S g.met.T.Scale.most in
     fits_as _ _ (is_product _ _ (pos S) (pos S) c.units-s.ensures c.units-s.ensures f f) (square_fits S g.met.T.Scale.most)

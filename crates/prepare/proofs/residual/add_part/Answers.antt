@@ -55,12 +55,12 @@ pub plus-requires : goal.plus-requires
 plus-requires g c =
     let h : c.loop-row.row < c.args.system.now.states = omega (arith, c.states-row-end.ensures) in
     let z = is_correction g.T.Scale.unit c.args.system.now c.args.proposal.now c.requires.together c.args.part c.loop-row.row _ c.leftovers-leftovers.ensures _ c.correction.ensures in
-    fits_same (plus_same (c.row-at.ensures ∙ c.loop-row.invariant.1.after c.loop-row.row (omega arith)) (c.times-term.ensures ∙ times_same {s = ends c.args.weight} refl z)) (c.requires.fits c.loop-row.row h)
+    fits_same (plus_same (c.row_at.ensures ∙ c.loop-row.invariant.1.after c.loop-row.row (omega arith)) (c.times-term.ensures ∙ times_same {s = ends c.args.weight} refl z)) (c.requires.fits c.loop-row.row h)
 
 pub loop-row-preserved : goal.loop-row-preserved
 loop-row-preserved g c =
     let h : c.loop-row.row < c.args.system.now.states = omega (arith, c.states-row-end.ensures) in
     let z = is_correction g.T.Scale.unit c.args.system.now c.args.proposal.now c.requires.together c.args.part c.loop-row.row _ c.leftovers-leftovers.ensures _ c.correction.ensures in
     let l : c.loop-row.row < length c.loop-row.sums = omega (arith, c.loop-row.invariant.0, c.args.system.now.size.1) in
-    let e = c.plus.ensures ∙ plus_same (c.row-at.ensures ∙ c.loop-row.invariant.1.after c.loop-row.row (omega arith)) (c.times-term.ensures ∙ times_same {s = ends c.args.weight} refl z) in
+    let e = c.plus.ensures ∙ plus_same (c.row_at.ensures ∙ c.loop-row.invariant.1.after c.loop-row.row (omega arith)) (c.times-term.ensures ∙ times_same {s = ends c.args.weight} refl z) in
     (length-set c.loop-row.sums c.loop-row.row _ ∙ c.loop-row.invariant.0, filled_more c.loop-row.row _ _ c.loop-row.sums c.plus.result l c.loop-row.invariant.1 e)

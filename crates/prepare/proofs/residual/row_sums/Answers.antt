@@ -8,8 +8,8 @@ use Rattle.prepare.proofs.Additions.{fits_same, plus_same, times_same, plus_more
 use Rattle.prepare.proofs.Known.{admitted, is_offered, some}
 use Rattle.prepare.proofs.residual.row_sums.Goals as goal
 
-pub add-part-requires : goal.add-part-requires
-add-part-requires g c =
+pub add_part-requires : goal.add_part-requires
+add_part-requires g c =
     let S : ℕ = g.T.Scale.unit in
     let s = c.args.system.now in
     let p = c.args.proposal.now in
@@ -17,24 +17,24 @@ add-part-requires g c =
     record {
       together = c.requires;
       one = omega arith;
-      terms = λ i h. fits_same (times_same c.one-whole.ensures refl) (fit i);
-      fits = λ i h. fits_same (plus_same (c.zero-rows-sums.ensures i) (times_same c.one-whole.ensures refl) ∙ zero_plus _) (fit i);
+      terms = λ i h. fits_same (times_same c.one_whole.ensures refl) (fit i);
+      fits = λ i h. fits_same (plus_same (c.zero_rows-sums.ensures i) (times_same c.one_whole.ensures refl) ∙ zero_plus _) (fit i);
     }
 
 pub loop-v-init : goal.loop-v-init
 loop-v-init g c i h =
     let S : ℕ = g.T.Scale.unit in
     let fixed : Interval = point (pos S) *ᵢ method.correction S (game c.args.system.now) (offered c.args.proposal.now) 0 i in
-    c.add-part.ensures i h ∙ plus_same (c.zero-rows-sums.ensures i) (times_same c.one-whole.ensures refl) ∙ zero_plus fixed ∙ sym (plus_zero fixed)
+    c.add_part.ensures i h ∙ plus_same (c.zero_rows-sums.ensures i) (times_same c.one_whole.ensures refl) ∙ zero_plus fixed ∙ sym (plus_zero fixed)
 
-pub add-part-requires-in-loop-v : goal.add-part-requires-in-loop-v
-add-part-requires-in-loop-v g c =
+pub add_part-requires-in-loop-v : goal.add_part-requires-in-loop-v
+add_part-requires-in-loop-v g c =
     let S : ℕ = g.T.Scale.unit in
     let s = c.args.system.now in
     let p = c.args.proposal.now in
     let v : ℕ = c.loop-v.v in
     let below : v + 1 ≤ s.settings = omega (arith, c.settings-v-end.ensures) in
-    let term = λ (i : ℕ). times_same c.range-after.ensures (ap (λ n. method.correction S (game s) (offered p) n i) (add-one v)) in
+    let term = λ (i : ℕ). times_same c.range_after.ensures (ap (λ n. method.correction S (game s) (offered p) n i) (add-one v)) in
     record {
       together = c.requires;
       one = below;
@@ -48,4 +48,4 @@ loop-v-preserved g c i h =
     let s = c.args.system.now in
     let p = c.args.proposal.now in
     let v : ℕ = c.loop-v.v in
-    c.add-part-in-loop-v.ensures i h ∙ plus_same (c.loop-v.invariant i h) (times_same c.range-after.ensures (ap (λ n. method.correction S (game s) (offered p) n i) (add-one v))) ∙ plus_more (point (pos S) *ᵢ method.correction S (game s) (offered p) 0 i) v (λ u. (game s).range (suc u) *ᵢ method.correction S (game s) (offered p) (suc u) i)
+    c.add_part-in-loop-v.ensures i h ∙ plus_same (c.loop-v.invariant i h) (times_same c.range_after.ensures (ap (λ n. method.correction S (game s) (offered p) n i) (add-one v))) ∙ plus_more (point (pos S) *ᵢ method.correction S (game s) (offered p) 0 i) v (λ u. (game s).range (suc u) *ᵢ method.correction S (game s) (offered p) (suc u) i)

@@ -15,27 +15,27 @@ returns-then-table-n c =
       | then-table-n-via-else-table-n+then-guesses-n w ↦ count_no s r g _ _ c.states-n.ensures c.units-units.ensures (second_count s r g _ _ c.states-n.ensures c.units-units.ensures w.if-guesses-n.true)
     ]
 
-pub returns-in-err-table : goal.returns-in-err-table
-returns-in-err-table c =
-    let p = err_from_is_err_and c.from-residual.result c.from-residual.ensures.1 in
-    rw (p.1, p.2) (table_no c.args.system.now c.args.table.now c.args.guesses.now _ _ c.states-n.ensures c.units-units.ensures _ c.if-table-n.false c.if-guesses-n.false c.in-err-table.ensures)
+pub returns-in_err-table : goal.returns-in_err-table
+returns-in_err-table c =
+    let p = err_from_is_err_and c.from_residual.result c.from_residual.ensures.1 in
+    rw (p.1, p.2) (table_no c.args.system.now c.args.table.now c.args.guesses.now _ _ c.states-n.ensures c.units-units.ensures _ c.if-table-n.false c.if-guesses-n.false c.in_err-table.ensures)
 
-pub returns-in-err-guesses : goal.returns-in-err-guesses
-returns-in-err-guesses c =
-    let p = err_from_is_err_and c.from-residual-in-err-guesses.result c.from-residual-in-err-guesses.ensures.1 in
-    rw (p.1, p.2) (guess_no c.args.system.now c.args.table.now c.args.guesses.now _ _ c.states-n.ensures c.units-units.ensures _ _ c.if-table-n.false c.if-guesses-n.false c.in-ok-table.ensures c.in-err-guesses.ensures)
+pub returns-in_err-guesses : goal.returns-in_err-guesses
+returns-in_err-guesses c =
+    let p = err_from_is_err_and c.from_residual-in_err-guesses.result c.from_residual-in_err-guesses.ensures.1 in
+    rw (p.1, p.2) (guess_no c.args.system.now c.args.table.now c.args.guesses.now _ _ c.states-n.ensures c.units-units.ensures _ _ c.if-table-n.false c.if-guesses-n.false c.in_ok-table.ensures c.in_err-guesses.ensures)
 
-pub invariant-of-result : goal.invariant-of-result
-invariant-of-result c = (copied_small _ _ _ _ c.in-ok-table.ensures, (copied_small _ _ _ _ c.in-ok-guesses.ensures, tt))
+pub invariant_of-result : goal.invariant_of-result
+invariant_of-result c = record { tabled = copied_small _ _ _ _ c.in_ok-table.ensures; guessed = copied_small _ _ _ _ c.in_ok-guesses.ensures }
 
 pub returns : goal.returns
 returns c =
     let n = c.states-n.result in (
-      numbers_yes c.args.system.now c.args.table.now c.args.guesses.now _ _ c.states-n.ensures c.units-units.ensures _ _ c.if-table-n.false c.if-guesses-n.false c.in-ok-table.ensures c.in-ok-guesses.ensures,
+      numbers_yes c.args.system.now c.args.table.now c.args.guesses.now _ _ c.states-n.ensures c.units-units.ensures _ _ c.if-table-n.false c.if-guesses-n.false c.in_ok-table.ensures c.in_ok-guesses.ensures,
       record {
         units = c.units-units.ensures;
         states = c.states-n.ensures;
-        table = copied_same _ _ _ (copied_end _ (n * n) _ _ _ (sym c.if-table-n.false) c.in-ok-table.ensures);
-        guesses = copied_same _ _ _ c.in-ok-guesses.ensures;
+        table = copied_same _ _ _ (copied_end _ (n * n) _ _ _ (sym c.if-table-n.false) c.in_ok-table.ensures);
+        guesses = copied_same _ _ _ c.in_ok-guesses.ensures;
       },
     )
