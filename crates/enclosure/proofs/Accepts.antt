@@ -8,7 +8,7 @@ use Rattle.span.specs.Questions.{first_no}
 use Rattle.span.proofs.Integers.{lin}
 use Rattle.method.specs.Method.{size}
 use Rattle.method.specs.Sound.{Inside}
-use Rattle.method.specs.Trials.{inside?}
+use Rattle.method.specs.Trials.{is_inside}
 use Rattle.method.proofs.Narrows.{Ordered}
 use Rattle.method.proofs.Sizes.{size_within, within_size}
 use Rattle.system.specs.Figures.{spans, Narrow}
@@ -33,12 +33,12 @@ step_reaches p y v hy hv = record {
 less : (a b : ℤ) → lt_z a b ≡ true → a <ℤ b
 less a b e = omega (arith, lin)
 
-pub row_inside : (n : ℕ) (Y V : ℕ → Interval) → inside? n Y V ≡ true → (i : ℕ) → i < n → ((Y i).low <ℤ (V i).low) × ((V i).high <ℤ (Y i).high)
+pub row_inside : (n : ℕ) (Y V : ℕ → Interval) → is_inside n Y V ≡ true → (i : ℕ) → i < n → ((Y i).low <ℤ (V i).low) × ((V i).high <ℤ (Y i).high)
 row_inside n Y V h i l =
     let q = and_parts (lt_z (Y i).low (V i).low) (lt_z (V i).high (Y i).high) (every_yes n _ h i l) in
     (less (Y i).low (V i).low q.0, less (V i).high (Y i).high q.1)
 
-pub strictly : (n : ℕ) (Y V : ℕ → Interval) → inside? n Y V ≡ true → (i : ℕ) → i < n → Inside (V i) (Y i)
+pub strictly : (n : ℕ) (Y V : ℕ → Interval) → is_inside n Y V ≡ true → (i : ℕ) → i < n → Inside (V i) (Y i)
 strictly n Y V h i l =
     let q = row_inside n Y V h i l in
     record { low = omega (arith, lin, q.0); high = omega (arith, lin, q.1) }

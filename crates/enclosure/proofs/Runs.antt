@@ -7,7 +7,7 @@ use Rattle.span.specs.Intervals.{Interval}
 use Rattle.span.specs.Questions.{first_no}
 use Rattle.span.proofs.Integers.{lin}
 use Rattle.method.specs.Method.{Game, Proposal, size, residual, greatest_of, residual_size, first_box}
-use Rattle.method.specs.Trials.{boxes, accepts, grown, inside?, worst}
+use Rattle.method.specs.Trials.{boxes, accepts, grown, is_inside, worst}
 use Rattle.method.proofs.Halves.{first_accepted}
 use Rattle.system.specs.Figures.{spans}
 use Rattle.system.proofs.Verdicts.{no_none, no_here, no_after}
@@ -138,13 +138,13 @@ module _ (S : ℕ) (G : Game) (H : Proposal) (p : Prepared) (q : PreparedFor S G
     pub sizes_none : first_no (size_questions S G H (boxes S G H (pred b))) ≡ None
     sizes_none = sym (sizes_as S G H p q (boxes S G H (pred b)) y v trial_held) ∙ h
 
-    pub accepts_here : inside? p.states (spans y) (spans v) ≡ accepts S G H (boxes S G H (pred b))
+    pub accepts_here : is_inside p.states (spans y) (spans v) ≡ accepts S G H (boxes S G H (pred b))
     accepts_here = accepts_as S G H p q (boxes S G H (pred b)) y v trial_held hv
 
-    pub found_accepted : 1 ≤ b → inside? p.states (spans y) (spans v) ≡ true → trials S G H (pred t) 0 ≡ Ok b
+    pub found_accepted : 1 ≤ b → is_inside p.states (spans y) (spans v) ≡ true → trials S G H (pred t) 0 ≡ Ok b
     found_accepted some a = g.left ∙ trial_accepted S G H (pred b) sizes_none (t - b) (sym accepts_here ∙ a) ∙ ap Ok (suc_pred b some)
 
-    pub found_worst : b ≡ t → inside? p.states (spans y) (spans v) ≡ false → trials S G H (pred t) 0 ≡ Err (NotAccepted (worst (spans y) (spans v) (pred p.states)).row (sided (worst (spans y) (spans v) (pred p.states)).side))
+    pub found_worst : b ≡ t → is_inside p.states (spans y) (spans v) ≡ false → trials S G H (pred t) 0 ≡ Err (NotAccepted (worst (spans y) (spans v) (pred p.states)).row (sided (worst (spans y) (spans v) (pred p.states)).side))
     found_worst e a =
         let z : t - b ≡ 0 = omega arith in
         g.left ∙ ap (λ n. trials S G H n (pred b)) z ∙ trial_last S G H (pred b) sizes_none (sym accepts_here ∙ a) ∙ ap Err (sym (refused_as S G H p q (boxes S G H (pred b)) y v trial_held hv))

@@ -7,7 +7,7 @@ use Rattle.span.specs.declared.span.Span.{Span}
 use Rattle.span.specs.Intervals.{Interval}
 use Rattle.span.specs.Questions.{Question, ask, first_no, ends_within}
 use Rattle.method.specs.Method.{Game, Proposal, Accepted, step, narrowed}
-use Rattle.method.specs.Trials.{inside?, accepts, worst, worse, low_end, high_end}
+use Rattle.method.specs.Trials.{is_inside, accepts, worst, worse, low_end, high_end}
 use Rattle.method.specs.Trials as trials
 use Rattle.method.proofs.Soundness.{soundness}
 use Rattle.system.specs.Figures.{spans}
@@ -64,8 +64,8 @@ module _ (S : ℕ) (G : Game) (H : Proposal) (p : Prepared) (q : PreparedFor S G
     pub step_as : (i : ℕ) → i < G.states → spans v i ≡ step S G H Y i
     step_as i l = hv.rows i (omega (arith, q.states)) ∙ next_is S G H p q (spans y) Y trial_as i l
 
-    pub accepts_as : inside? p.states (spans y) (spans v) ≡ accepts S G H Y
-    accepts_as = ap (λ n. inside? n (spans y) (spans v)) q.states ∙ every_same G.states _ _ (λ i l. tested (spans y i) (Y i) (spans v i) (step S G H Y i) (trial_as i l) (step_as i l))
+    pub accepts_as : is_inside p.states (spans y) (spans v) ≡ accepts S G H Y
+    accepts_as = ap (λ n. is_inside n (spans y) (spans v)) q.states ∙ every_same G.states _ _ (λ i l. tested (spans y i) (Y i) (spans v i) (step S G H Y i) (trial_as i l) (step_as i l))
 
     pub refused_as : NotAccepted (worst (spans y) (spans v) (pred p.states)).row (sided (worst (spans y) (spans v) (pred p.states)).side) ≡ refused_at S G H Y
     refused_as =
@@ -125,8 +125,8 @@ module _ (S : ℕ) (G : Game) (H : Proposal) (p : Prepared) (q : PreparedFor S G
       sized : first_no (try_questions S G H ys) ≡ first_no last
       sized = boxed ∙ append_none (size_questions S G H (box ys)) last (sym (sizes_as S G H p q (box ys) y v hy) ∙ k)
 
-      pub no_acceptance : inside? p.states (spans y) (spans v) ≡ false → first_no (try_questions S G H ys) ≡ Some (NotAccepted (worst (spans y) (spans v) (pred p.states)).row (sided (worst (spans y) (spans v) (pred p.states)).side))
+      pub no_acceptance : is_inside p.states (spans y) (spans v) ≡ false → first_no (try_questions S G H ys) ≡ Some (NotAccepted (worst (spans y) (spans v) (pred p.states)).row (sided (worst (spans y) (spans v) (pred p.states)).side))
       no_acceptance a = sized ∙ no_here _ _ _ (sym (accepts_as S G H p q (box ys) y v hy hv) ∙ a) ∙ ap Some (sym (refused_as S G H p q (box ys) y v hy hv))
 
-      pub all_yes : inside? p.states (spans y) (spans v) ≡ true → first_no (try_questions S G H ys) ≡ None
+      pub all_yes : is_inside p.states (spans y) (spans v) ≡ true → first_no (try_questions S G H ys) ≡ None
       all_yes a = sized ∙ no_after _ _ _ _ (sym (accepts_as S G H p q (box ys) y v hy hv) ∙ a) no_none

@@ -1,5 +1,5 @@
 -- what a try, a run, a narrowing and the asking for a row answer
-use Rattle.std.specs.Prelude.{◌≡◌, ℕ, zero, suc, pred, ◌+◌, ◌-◌, ◌*◌, ◌<◌, ◌≤◌, Bool, cond, ◌&&◌, List, [], ◌∷◌, ◌++◌, ℤ, pos, Some, None, Ok, Err, Option, Result, nat_le, nat_lt, slice_index_or}
+use Rattle.std.specs.Prelude.{◌≡◌, ℕ, zero, suc, pred, ◌-◌, ◌*◌, ◌<◌, ◌≤◌, Bool, cond, ◌&&◌, List, [], ◌∷◌, ◌++◌, ℤ, pos, Some, None, Ok, Err, Option, Result, nat_le, nat_lt, slice_index_or}
 use Rattle.span.specs.declared.span.Span.{Span}
 use Rattle.span.specs.Intervals.{Interval, point, ◌+ᵢ◌}
 use Rattle.span.specs.Questions.{Question, ask, first_no}

@@ -1,6 +1,6 @@
 // When a box is accepted, and where it fails worst.
 ghost use Rattle.std.specs.Prelude.{◌≡◌, pred, ◌^◌, ◌<◌, ◌≤◌, ◌&&◌, if◌then◌else◌, int_lt};
-ghost use Rattle.method.specs.Trials.{inside?, worst, low_end, high_end};
+ghost use Rattle.method.specs.Trials.{is_inside, worst, low_end, high_end};
 ghost use Rattle.method.specs.Method.{size};
 ghost use Rattle.system.specs.Figures.{spans};
 ghost use Rattle.enclosure.specs.declared.fault.Fault.TheVariants.{NotAccepted};
@@ -22,7 +22,7 @@ pub(crate) struct Overshoot {
 // Does V lie strictly inside Y in every row?
 pub(crate) fn strictly_inside(y: &[Span; 12], v: &[Span; 12], n: usize) -> bool
     requires { n ≤ 12 }
-    ensures { result ≡ inside? n (spans y.now) (spans v.now) }
+    ensures { result ≡ is_inside n (spans y.now) (spans v.now) }
 {
     for row in 0..n {
         if !row_inside(at(y, row), at(v, row)) {

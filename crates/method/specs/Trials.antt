@@ -35,8 +35,8 @@ abbrev pub high_end : (ℕ → Interval) → (ℕ → Interval) → ℕ → End
 high_end Y V i = record { row = i; side = 1; over = (V i).high -ℤ (Y i).high }
 
 -- does V lie strictly inside Y in each of n rows?
-abbrev pub inside? : ℕ → (ℕ → Interval) → (ℕ → Interval) → Bool
-inside? n Y V = every n (λ i. int_lt (Y i).low (V i).low && int_lt (V i).high (Y i).high)
+abbrev pub is_inside : ℕ → (ℕ → Interval) → (ℕ → Interval) → Bool
+is_inside n Y V = every n (λ i. int_lt (Y i).low (V i).low && int_lt (V i).high (Y i).high)
 
 -- the end with the greatest overshoot in rows 0 to i; ties go to the lower row, then to the low end
 unfoldable pub worst : (ℕ → Interval) → (ℕ → Interval) → ℕ → End
@@ -51,4 +51,4 @@ module _ (S : ℕ) (G : Game) (H : Proposal) where
 
   -- is the box accepted?
   abbrev pub accepts : (ℕ → Interval) → Bool
-  accepts Y = inside? G.states Y (step S G H Y)
+  accepts Y = is_inside G.states Y (step S G H Y)

@@ -9,4 +9,4 @@ pub returns-then-numbers-n : goal.returns-then-numbers-n
 returns-then-numbers-n c = no_here _ _ _ (ne_eqb (length c.args.numbers.now) (2 * c.args.n) c.if-numbers-n.true)
 
 pub returns : goal.returns
-returns c = boxed_after (count_question c.args.n c.args.numbers.now) (order_questions c.args.n c.args.numbers.now) c.args.n (box c.args.numbers.now) c.ordered-box.result (eq-eqb (length c.args.numbers.now) (2 * c.args.n) c.if-numbers-n.false) c.ordered-box.ensures
+returns c = boxed_after (count_question c.args.n c.args.numbers.now) (order_questions c.args.n c.args.numbers.now) c.args.n (box c.args.numbers.now) c.ordered_box.result (eq-eqb (length c.args.numbers.now) (2 * c.args.n) c.if-numbers-n.false) c.ordered_box.ensures

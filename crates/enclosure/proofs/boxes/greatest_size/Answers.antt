@@ -10,7 +10,7 @@ pub loop-row-preserved : goal.loop-row-preserved
 loop-row-preserved c =
     let p = c.args.prepared.now in
     let z : ends c.at.result ≡ spans p.residual c.loop-row.row = cc in
-    let s : c.greater-end.result ≡ size (spans p.residual c.loop-row.row) = c.greater-end.ensures ∙ ap size z in
+    let s : c.greater_end.result ≡ size (spans p.residual c.loop-row.row) = c.greater_end.ensures ∙ ap size z in
     let i : c.loop-row.greatest ≡ greatest_size p c.loop-row.row = c.loop-row.invariant in
     let m : c.max-greatest.result ≡ greatest_size p (suc c.loop-row.row) = omega (arith, c.max-greatest.ensures) in
     m ∙ ap (greatest_size p) (sym (add-one c.loop-row.row))

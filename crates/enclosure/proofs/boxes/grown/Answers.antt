@@ -7,4 +7,4 @@ use Rattle.enclosure.proofs.boxes.grown.Goals as goal
 pub loop-row-preserved : goal.loop-row-preserved
 loop-row-preserved c =
     let few : c.loop-row.row < 12 = omega (arith, c.requires.few) in
-    holds_more c.loop-row.row c.loop-row.rows c.grown-row.result (λ i. grown (spans c.args.v.now i)) c.loop-row.invariant few (c.grown-row.ensures ∙ ap grown c.at.ensures)
+    holds_more c.loop-row.row c.loop-row.rows c.grown_row.result (λ i. grown (spans c.args.v.now i)) c.loop-row.invariant few (c.grown_row.ensures ∙ ap grown c.at.ensures)

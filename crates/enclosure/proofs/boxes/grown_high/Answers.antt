@@ -3,12 +3,12 @@ use Rattle.std.proofs.lemmas.Int.{ints}
 use Rattle.enclosure.proofs.Grows.{greater}
 use Rattle.enclosure.proofs.boxes.grown_high.Goals as goal
 
-pub overflow-add-result : goal.overflow-add-result
-overflow-add-result c =
-    let p = greater c.args.x c.tenths-above.result c.tenths-above-2.result c.max.result c.requires (search rules) (search rules) c.tenths-above.ensures c.tenths-above-2.ensures c.max.ensures.value in
+pub overflow_add-result : goal.overflow_add-result
+overflow_add-result c =
+    let p = greater c.args.x c.tenths_above.result c.tenths_above-2.result c.max.result c.requires (search rules) (search rules) c.tenths_above.ensures c.tenths_above-2.ensures c.max.ensures.value in
     omega (arith, ints, p.1)
 
 pub returns : goal.returns
 returns c =
-    let p = greater c.args.x c.tenths-above.result c.tenths-above-2.result c.max.result c.requires (search rules) (search rules) c.tenths-above.ensures c.tenths-above-2.ensures c.max.ensures.value in
+    let p = greater c.args.x c.tenths_above.result c.tenths_above-2.result c.max.result c.requires (search rules) (search rules) c.tenths_above.ensures c.tenths_above-2.ensures c.max.ensures.value in
     omega (arith, ints, p.0, p.1)

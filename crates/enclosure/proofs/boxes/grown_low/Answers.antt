@@ -3,12 +3,12 @@ use Rattle.std.proofs.lemmas.Int.{ints}
 use Rattle.enclosure.proofs.Grows.{lesser}
 use Rattle.enclosure.proofs.boxes.grown_low.Goals as goal
 
-pub overflow-sub-result : goal.overflow-sub-result
-overflow-sub-result c =
-    let p = lesser c.args.x c.tenths-below.result c.tenths-below-2.result c.min.result c.requires (search rules) (search rules) c.tenths-below.ensures c.tenths-below-2.ensures c.min.ensures.value in
+pub overflow_sub-result : goal.overflow_sub-result
+overflow_sub-result c =
+    let p = lesser c.args.x c.tenths_below.result c.tenths_below-2.result c.min.result c.requires (search rules) (search rules) c.tenths_below.ensures c.tenths_below-2.ensures c.min.ensures.value in
     omega (arith, ints, p.1)
 
 pub returns : goal.returns
 returns c =
-    let p = lesser c.args.x c.tenths-below.result c.tenths-below-2.result c.min.result c.requires (search rules) (search rules) c.tenths-below.ensures c.tenths-below-2.ensures c.min.ensures.value in
+    let p = lesser c.args.x c.tenths_below.result c.tenths_below-2.result c.min.result c.requires (search rules) (search rules) c.tenths_below.ensures c.tenths_below-2.ensures c.min.ensures.value in
     omega (arith, ints, p.0, p.1)

@@ -8,16 +8,16 @@ use Rattle.enclosure.proofs.boxes.limited.Goals as goal
 pub loop-row-init : goal.loop-row-init
 loop-row-init g c = each_none _
 
-pub returns-then-greater-end-limit : goal.returns-then-greater-end-limit
-returns-then-greater-end-limit g c =
-    let u : c.unsigned-abs-limit.result ≡ g.T.Scale.unit = search rules in
-    let e : c.greater-end.result ≡ size (spans c.args.y.now c.loop-row.row) = c.greater-end.ensures ∙ ap size c.at.ensures in
-    let far : 100 * g.T.Scale.unit < size (spans c.args.y.now c.loop-row.row) = omega (arith, c.if-greater-end-limit.true) in
+pub returns-then-greater_end-limit : goal.returns-then-greater_end-limit
+returns-then-greater_end-limit g c =
+    let u : c.unsigned_abs-limit.result ≡ g.T.Scale.unit = search rules in
+    let e : c.greater_end.result ≡ size (spans c.args.y.now c.loop-row.row) = c.greater_end.ensures ∙ ap size c.at.ensures in
+    let far : 100 * g.T.Scale.unit < size (spans c.args.y.now c.loop-row.row) = omega (arith, c.if-greater_end-limit.true) in
     each_first c.args.n c.loop-row.row _ c.loop-row-test.true c.loop-row.invariant (too_far g.T.Scale.unit (spans c.args.y.now c.loop-row.row) far)
 
 pub loop-row-preserved : goal.loop-row-preserved
 loop-row-preserved g c =
-    let u : c.unsigned-abs-limit.result ≡ g.T.Scale.unit = search rules in
-    let e : c.greater-end.result ≡ size (spans c.args.y.now c.loop-row.row) = c.greater-end.ensures ∙ ap size c.at.ensures in
-    let near : size (spans c.args.y.now c.loop-row.row) ≤ 100 * g.T.Scale.unit = omega (arith, c.if-greater-end-limit.false) in
+    let u : c.unsigned_abs-limit.result ≡ g.T.Scale.unit = search rules in
+    let e : c.greater_end.result ≡ size (spans c.args.y.now c.loop-row.row) = c.greater_end.ensures ∙ ap size c.at.ensures in
+    let near : size (spans c.args.y.now c.loop-row.row) ≤ 100 * g.T.Scale.unit = omega (arith, c.if-greater_end-limit.false) in
     each_more c.loop-row.row _ c.loop-row.invariant (near_enough g.T.Scale.unit (spans c.args.y.now c.loop-row.row) near)

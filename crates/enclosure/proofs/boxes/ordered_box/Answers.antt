@@ -11,8 +11,8 @@ use Rattle.enclosure.proofs.boxes.ordered_box.Goals as goal
 pub loop-row-init : goal.loop-row-init
 loop-row-init c = (each_none _, holds_none c.point-rows.result (box c.args.numbers.now) c.point-rows.ensures)
 
-pub returns-in-default : goal.returns-in-default
-returns-in-default c =
+pub returns-in_default : goal.returns-in_default
+returns-in_default c =
     let b = box c.args.numbers.now c.loop-row.row in
     let above : b.high <ℤ b.low = search rules in
     let no : le_z b.low b.high ≡ false = grind (arith, ints) in

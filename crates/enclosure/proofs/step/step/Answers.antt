@@ -8,4 +8,4 @@ pub loop-row-preserved : goal.loop-row-preserved
 loop-row-preserved g c =
     let p = c.args.prepared.now in
     let few : c.loop-row.row < 12 = omega (arith, c.states-row-end.ensures, p.size.1) in
-    holds_more c.loop-row.row c.loop-row.v c.step-row.result (next p (spans c.args.y.now)) c.loop-row.invariant few c.step-row.ensures
+    holds_more c.loop-row.row c.loop-row.v c.step_row.result (next p (spans c.args.y.now)) c.loop-row.invariant few c.step_row.ensures

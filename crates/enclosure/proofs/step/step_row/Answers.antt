@@ -34,4 +34,4 @@ returns g c =
     let b : ends c.at.result ≡ spans p.residual c.args.row = cc in
     let f : ends c.times-fixed.result ≡ point (pos p.units) *ᵢ spans p.residual c.args.row = c.times-fixed.ensures ∙ ap (λ s. s *ᵢ ends c.at.result) a ∙ ap (λ s. point (pos p.units) *ᵢ s) b in
     let e : ends c.times-fixed.result +ᵢ ends c.products.result ≡ point (pos p.units) *ᵢ spans p.residual c.args.row +ᵢ product_sum p (spans c.args.y.now) c.args.row p.states = ap (λ s. s +ᵢ ends c.products.result) f ∙ ap (λ s. point (pos p.units) *ᵢ spans p.residual c.args.row +ᵢ s) c.products.ensures in
-    c.bring-back.ensures.value ∙ ap (λ S. brought S (ends c.plus.result)) c.requires.scale ∙ ap (brought p.units) (c.plus.ensures ∙ e)
+    c.bring_back.ensures.value ∙ ap (λ S. brought S (ends c.plus.result)) c.requires.scale ∙ ap (brought p.units) (c.plus.ensures ∙ e)

@@ -3,9 +3,9 @@ use Rattle.enclosure.proofs.Verdict.{worst_none, worst_more}
 use Rattle.enclosure.proofs.trial.worst.Goals as goal
 
 pub loop-row-init : goal.loop-row-init
-loop-row-init c = worst_none (spans c.args.y.now) (spans c.args.v.now) c.low-end.result c.high-end.result c.worse-worst.result c.low-end.ensures c.high-end.ensures c.worse-worst.ensures
+loop-row-init c = worst_none (spans c.args.y.now) (spans c.args.v.now) c.low_end.result c.high_end.result c.worse-worst.result c.low_end.ensures c.high_end.ensures c.worse-worst.ensures
 
 pub loop-row-preserved : goal.loop-row-preserved
 loop-row-preserved c =
-    worst_more (spans c.args.y.now) (spans c.args.v.now) c.loop-row.row c.loop-row.auto.row c.loop-row.worst c.low-end-in-loop-row.result c.worse.result c.high-end-in-loop-row.result c.worse-worst-in-loop-row.result
-    c.loop-row.invariant c.low-end-in-loop-row.ensures c.worse.ensures c.high-end-in-loop-row.ensures c.worse-worst-in-loop-row.ensures
+    worst_more (spans c.args.y.now) (spans c.args.v.now) c.loop-row.row c.loop-row.auto.row c.loop-row.worst c.low_end-in-loop-row.result c.worse.result c.high_end-in-loop-row.result c.worse-worst-in-loop-row.result
+    c.loop-row.invariant c.low_end-in-loop-row.ensures c.worse.ensures c.high_end-in-loop-row.ensures c.worse-worst-in-loop-row.ensures

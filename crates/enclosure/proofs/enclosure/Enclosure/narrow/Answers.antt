@@ -14,12 +14,16 @@ returns-then-held-ge16 g c =
       narrowed = λ G H Y m h. (no_here _ _ _ (le-ltb m 16 (omega (arith, h.count, c.if-held-ge16.true))), refl);
     }
 
-pub invariant-of-self : goal.invariant-of-self
-invariant-of-self g c =
+pub invariant_of-self : goal.invariant_of-self
+invariant_of-self g c =
     let e = c.args.self.now in
     let v = c.step-correction.result in
     let few : e.narrowings + 1 ≤ 16 = omega (arith, c.if-held-ge16.false) in
-    (few, (kept_within e.prepared (100 * e.prepared.units) (spans e.correction) v c.step-correction.ensures (into e v c.step-correction.ensures) (λ i l. e.within i), (kept_shrinks e.prepared (100 * e.prepared.units) (spans e.correction) v c.step-correction.ensures (into e v c.step-correction.ensures), tt)))
+    record {
+      few = few;
+      within = kept_within e.prepared (100 * e.prepared.units) (spans e.correction) v c.step-correction.ensures (into e v c.step-correction.ensures) (λ i l. e.within i);
+      shrinking = kept_shrinks e.prepared (100 * e.prepared.units) (spans e.correction) v c.step-correction.ensures (into e v c.step-correction.ensures);
+    }
 
 pub returns : goal.returns
 returns g c =

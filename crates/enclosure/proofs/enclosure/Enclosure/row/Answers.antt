@@ -17,18 +17,18 @@ returns-then-row-states c = no_here _ _ _ (le-ltb c.args.row c.args.self.now.pre
 pub unreachable-requires : goal.unreachable-requires
 unreachable-requires c =
     let e = c.args.self.now in
-    let f : SFits w64 c.guess-at.result = search rules in
-    let x : c.guess-at.result ≡ get_or e.prepared.guesses c.args.row (pos 0) = cc in
-    let a : ends c.point-guess.result ≡ point (get_or e.prepared.guesses c.args.row (pos 0)) = c.point-guess.ensures ∙ ap point (to_z-of_z w64 c.guess-at.result f ∙ x) in
+    let f : SFits w64 c.guess_at.result = search rules in
+    let x : c.guess_at.result ≡ get_or e.prepared.guesses c.args.row (pos 0) = cc in
+    let a : ends c.point-guess.result ≡ point (get_or e.prepared.guesses c.args.row (pos 0)) = c.point-guess.ensures ∙ ap point (to_z-of_z w64 c.guess_at.result f ∙ x) in
     let s : ends c.point-guess.result +ᵢ ends c.at.result ≡ point (get_or e.prepared.guesses c.args.row (pos 0)) +ᵢ spans e.correction c.args.row = ap (λ z. z +ᵢ ends c.at.result) a ∙ ap (λ z. point (get_or e.prepared.guesses c.args.row (pos 0)) +ᵢ z) c.at.ensures in
     c.in-Err.ensures.value.1 (moved_fits s (interval_fits_units 200 e.prepared.units _ e.prepared.scale.1 (omega arith) (row_size e c.args.row)))
 
 pub returns : goal.returns
 returns c =
     let e = c.args.self.now in
-    let f : SFits w64 c.guess-at.result = search rules in
-    let x : c.guess-at.result ≡ get_or e.prepared.guesses c.args.row (pos 0) = cc in
-    let a : ends c.point-guess.result ≡ point (get_or e.prepared.guesses c.args.row (pos 0)) = c.point-guess.ensures ∙ ap point (to_z-of_z w64 c.guess-at.result f ∙ x) in
+    let f : SFits w64 c.guess_at.result = search rules in
+    let x : c.guess_at.result ≡ get_or e.prepared.guesses c.args.row (pos 0) = cc in
+    let a : ends c.point-guess.result ≡ point (get_or e.prepared.guesses c.args.row (pos 0)) = c.point-guess.ensures ∙ ap point (to_z-of_z w64 c.guess_at.result f ∙ x) in
     let s : ends c.point-guess.result +ᵢ ends c.at.result ≡ point (get_or e.prepared.guesses c.args.row (pos 0)) +ᵢ spans e.correction c.args.row = ap (λ z. z +ᵢ ends c.at.result) a ∙ ap (λ z. point (get_or e.prepared.guesses c.args.row (pos 0)) +ᵢ z) c.at.ensures in
     let r : ends c.in-Ok.range ≡ point (get_or e.prepared.guesses c.args.row (pos 0)) +ᵢ spans e.correction c.args.row = c.in-Ok.ensures.value ∙ s in (
       no_after _ _ _ _ (lt-ltb c.args.row e.prepared.states (omega (arith, c.states.ensures, c.if-row-states.false))) no_none,
