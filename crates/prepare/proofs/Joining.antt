@@ -14,7 +14,7 @@ use Rattle.prepare.specs.declared.fault.Fault.TheVariants.{Count}
 use Rattle.prepare.specs.declared.prepared.Prepared.{Prepared}
 use Rattle.prepare.specs.declared.proposal.Proposal.{Proposal}
 use Rattle.prepare.specs.Numbers.{Kept, Together, number_questions, offered}
-use Rattle.prepare.specs.Proposals.{PreparedFor, game, offer, table_questions, guess_questions, residual_questions, iteration_questions, propose_questions}
+use Rattle.prepare.specs.Proposals.{PreparedFor, Tabled, game, offer, table_questions, guess_questions, residual_questions, iteration_questions, propose_questions}
 use Rattle.prepare.specs.Rows.{Limited}
 use Rattle.prepare.proofs.Filling.{limited_narrow}
 use Rattle.prepare.proofs.Firsts.{later, earlier, all_yes, first_yes}
@@ -89,6 +89,15 @@ module _ (S : ℕ) (s : System) (r g : List ℤ) (es : S ≡ s.units) where
           guess_rest = λ i h. ap (λ xs. get_or xs i (pos 0)) eg ∙ k.guesses i ∙ get_or_past g i (pos 0) (omega (arith, guesses_long));
           residual_rest = λ i h. ap (λ xs. spans xs i) ez ∙ residual_given.filled.after i h;
           iteration_rest = λ t h. ap (λ xs. spans xs t) ey ∙ iteration_given.filled.after t h;
+        }
+
+        table_long : length r ≡ s.states * s.states
+        table_long = eqb-true (length r) (s.states * s.states) ((and_parts (eqb (length r) (s.states * s.states)) (eqb (length g) s.states) (first_yes _ _ _ none)).0)
+
+        pub tabled : (q : Prepared) → q.table ≡ p.table → Tabled s.states (offer s.states r g) q
+        tabled q et = record {
+          table_is = λ i j h l. ap (λ xs. get_or xs (i * s.states + j) (pos 0)) et ∙ k.table (i * s.states + j);
+          table_rest = λ t h. ap (λ xs. get_or xs t (pos 0)) et ∙ k.table t ∙ get_or_past r t (pos 0) (omega (arith, table_long));
         }
 
         -- what a prepared struct keeps, at the units u that the system tells

@@ -48,6 +48,11 @@ pub record PreparedFor (S : ℕ) (G : Game) (H : Proposal) (p : Prepared) : Type
   pub residual_rest : (i : ℕ) → G.states ≤ i → spans p.residual i ≡ point (pos 0)
   pub iteration_rest : (t : ℕ) → G.states * G.states ≤ t → spans p.iteration t ≡ point (pos 0)
 
+-- p keeps the inverse of the proposal H by rows of n numbers, and 0 past them
+pub record Tabled (n : ℕ) (H : Proposal) (p : Prepared) : Type 0 where
+  pub table_is : (i j : ℕ) → i < n → j < n → slice_index_or p.table (i * n + j) (pos 0) ≡ H.table i j
+  pub table_rest : (t : ℕ) → n * n ≤ t → slice_index_or p.table t (pos 0) ≡ pos 0
+
 abbrev pub Proposed : ℕ → System → List ℤ → List ℤ → Result Prepared Fault → Type 0
 Proposed S s r g (Ok p) = (first_no (propose_questions S s r g) ≡ None) × PreparedFor S (game s) (offer s.states r g) p
 Proposed S s r g (Err f) = first_no (propose_questions S s r g) ≡ Some f

@@ -1,6 +1,6 @@
 // Preparing a proposal, or turning it down.
-ghost use Rattle.std.specs.Prelude.{◌≡◌, ◌==◌};
-ghost use Rattle.prepare.specs.Proposals.{Proposed};
+ghost use Rattle.std.specs.Prelude.{◌≡◌, IfOk, ◌==◌};
+ghost use Rattle.prepare.specs.Proposals.{Proposed, Tabled, offer};
 
 use super::Prepared;
 use crate::fault::Fault;
@@ -14,7 +14,8 @@ impl Prepared {
     // Asks the questions of a proposal, R by rows and then the guesses, and works out its
     // residual and iteration matrix.
     pub fn new<T: Scale>(system: &System, table: &[i32], guesses: &[i32]) -> Result<Prepared, Fault>
-        ensures { Proposed T.Scale.unit system.now table.now guesses.now result }
+        ensures proposed { Proposed T.Scale.unit system.now table.now guesses.now result }
+        ensures table { IfOk result (Tabled system.now.states (offer system.now.states table.now guesses.now)) }
     {
         if !same_scale::<T>(system) {
             return Err(Fault::OtherScale {

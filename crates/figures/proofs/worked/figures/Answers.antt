@@ -22,18 +22,18 @@ two = refl
 product_is : (s t : Interval) → s ≡ from_to (negsuc 1) (pos 3) → t ≡ from_to (negsuc 4) (pos 4) → s *ᵢ t ≡ from_to (negsuc 14) (pos 12)
 product_is s t e f = rw (e, f) worked.product
 
-pub returns-in-err-product : goal.returns-in-err-product
-returns-in-err-product c =
-    let h = c.in-err-product.ensures.value in
-    let never : ⊥ = h.1 (subst Fits (sym (product_is (ends c.in-ok-new.field-0) (ends c.in-ok-new-2.field-0) c.in-ok-new.ensures c.in-ok-new-2.ensures)) fits) in
+pub returns-in_err-product : goal.returns-in_err-product
+returns-in_err-product c =
+    let h = c.in_err-product.ensures.value in
+    let never : ⊥ = h.1 (subst Fits (sym (product_is (ends c.in_ok-new.field-0) (ends c.in_ok-new-2.field-0) c.in_ok-new.ensures c.in_ok-new-2.ensures)) fits) in
     absurd never
 
 pub returns : goal.returns
 returns c = record {
   rules = worked;
   value = (
-    c.bring-back-minus-one.ensures.value ∙ rw c.point.ensures minus_one,
-    c.bring-back-two.ensures.value ∙ rw c.point-2.ensures two,
-    c.in-ok-product.ensures.value ∙ product_is (ends c.in-ok-new.field-0) (ends c.in-ok-new-2.field-0) c.in-ok-new.ensures c.in-ok-new-2.ensures,
+    c.bring_back-minus_one.ensures.value ∙ rw c.point.ensures minus_one,
+    c.bring_back-two.ensures.value ∙ rw c.point-2.ensures two,
+    c.in_ok-product.ensures.value ∙ product_is (ends c.in_ok-new.field-0) (ends c.in_ok-new-2.field-0) c.in_ok-new.ensures c.in_ok-new-2.ensures,
   );
 }

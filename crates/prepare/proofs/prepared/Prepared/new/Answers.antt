@@ -3,14 +3,14 @@ use Rattle.std.proofs.lemmas.Result.{err_from_is_err_and}
 use Rattle.std.proofs.lemmas.Bool.{eqb-true}
 use Rattle.system.proofs.Verdicts.{no_here}
 use Rattle.prepare.specs.declared.fault.Fault.TheVariants.{OtherScale}
-use Rattle.prepare.proofs.Joining.{numbers_no, together, residual_no, iteration_no, all_asked, prepared, kept_scale, kept_guesses, kept_residual, kept_iteration}
+use Rattle.prepare.proofs.Joining.{numbers_no, together, residual_no, iteration_no, all_asked, prepared, tabled, kept_scale, kept_guesses, kept_residual, kept_iteration}
 use Rattle.prepare.proofs.prepared.Prepared.new.Goals as goal
 
-pub returns-then-not-same_scale : goal.returns-then-not-same_scale
-returns-then-not-same_scale g c = no_here _ _ _ (sym c.if-not-same_scale.ensures) ∙ ap (λ u. Some (OtherScale u)) (sym c.units.ensures)
+pub returns-then-not-same_scale-clause-proposed : goal.returns-then-not-same_scale-clause-proposed
+returns-then-not-same_scale-clause-proposed g c = no_here _ _ _ (sym c.if-not-same_scale.ensures) ∙ ap (λ u. Some (OtherScale u)) (sym c.units.ensures)
 
-pub returns-in_err-proposal : goal.returns-in_err-proposal
-returns-in_err-proposal g c =
+pub returns-in_err-proposal-clause-proposed : goal.returns-in_err-proposal-clause-proposed
+returns-in_err-proposal-clause-proposed g c =
     let e = eqb-true _ _ (sym c.if-not-same_scale.ensures) in
     let p = err_from_is_err_and c.from_residual.result c.from_residual.ensures.1 in
     rw (p.1, p.2) (numbers_no g.T.Scale.unit c.args.system.now c.args.table.now c.args.guesses.now e _ c.in_err-proposal.ensures)
@@ -21,8 +21,8 @@ residual-requires g c =
     let k = c.in_ok-proposal.ensures in
     together g.T.Scale.unit c.args.system.now c.args.table.now c.args.guesses.now e _ k.0 k.1
 
-pub returns-in_err-residual : goal.returns-in_err-residual
-returns-in_err-residual g c =
+pub returns-in_err-residual-clause-proposed : goal.returns-in_err-residual-clause-proposed
+returns-in_err-residual-clause-proposed g c =
     let e = eqb-true _ _ (sym c.if-not-same_scale.ensures) in
     let k = c.in_ok-proposal.ensures in
     let p = err_from_is_err_and c.from_residual-in_err-residual.result c.from_residual-in_err-residual.ensures.1 in
@@ -34,8 +34,8 @@ iteration-requires g c =
     let k = c.in_ok-proposal.ensures in
     together g.T.Scale.unit c.args.system.now c.args.table.now c.args.guesses.now e _ k.0 k.1
 
-pub returns-in_err-iteration : goal.returns-in_err-iteration
-returns-in_err-iteration g c =
+pub returns-in_err-iteration-clause-proposed : goal.returns-in_err-iteration-clause-proposed
+returns-in_err-iteration-clause-proposed g c =
     let e = eqb-true _ _ (sym c.if-not-same_scale.ensures) in
     let k = c.in_ok-proposal.ensures in
     let p = err_from_is_err_and c.from_residual-in_err-iteration.result c.from_residual-in_err-iteration.ensures.1 in
@@ -60,8 +60,8 @@ invariant_of-result g c =
       contracting = kept_iteration S s r h e _ k.0 k.1 _ z _ y _ c.units-2.ensures;
     }
 
-pub returns : goal.returns
-returns g c =
+pub returns-clause-proposed : goal.returns-clause-proposed
+returns-clause-proposed g c =
     let s = c.args.system.now in
     let e = eqb-true _ _ (sym c.if-not-same_scale.ensures) in
     let k = c.in_ok-proposal.ensures in
@@ -71,3 +71,9 @@ returns g c =
     let h = c.args.guesses.now in
     let S : ℕ = g.T.Scale.unit in
     (all_asked S s r h e _ k.0 k.1 _ z _ y, prepared S s r h e _ k.0 k.1 _ z _ y _ (c.units-2.ensures ∙ sym e) c.states.ensures refl refl refl)
+
+pub returns-clause-table : goal.returns-clause-table
+returns-clause-table g c =
+    let e = eqb-true _ _ (sym c.if-not-same_scale.ensures) in
+    let k = c.in_ok-proposal.ensures in
+    tabled g.T.Scale.unit c.args.system.now c.args.table.now c.args.guesses.now e _ k.0 k.1 _ c.in_ok-residual.ensures _ c.in_ok-iteration.ensures _ refl
