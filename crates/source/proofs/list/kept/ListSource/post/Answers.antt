@@ -4,8 +4,8 @@ use Rattle.source.proofs.Listings.{matrix_answer, payout_answer}
 use Rattle.source.proofs.Verdicts.{no_here}
 use Rattle.source.proofs.list.kept.ListSource.post.Goals as goal
 
-pub returns-then-not-in-range : goal.returns-then-not-in-range
-returns-then-not-in-range c sound =
+pub returns-then-not-in_range : goal.returns-then-not-in_range
+returns-then-not-in_range c sound =
     let outside : in_range c.args.place ≡ false = cc in
     ((no_here _ _ _ outside, refl), sound)
 
