@@ -3,7 +3,7 @@ use Rattle.std.proofs.Common.{◌≡◌, ℕ, suc, ◌*◌, ◌<◌, ℤ, pos, n
 use borrow.Author.Differences.{ints}
 use lib.Signed.{quot_z, ≤ℤ_refl}
 use Rattle.std.proofs.lemmas.Int.{to_z-of_z}
-use Rattle.span.specs.Intervals.{Interval, In, point, ◌+ᵢ◌, brought}
+use Rattle.span.specs.Intervals.{Interval, In, brought}
 use Rattle.span.specs.Rounding.{floor, ceiling}
 use Rattle.span.specs.Spans.{ends}
 use Rattle.span.specs.declared.span.Span.{Span}
