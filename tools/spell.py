@@ -24,7 +24,7 @@ LET = re.compile(r"\blet\s+([^\s(){}\[\];,.:]+)\s*[:=]")
 # parts that the library spells otherwise today
 PARTS = [("natAbs", "unsigned_abs"), ("getD", "slice_index"), ("sumN", "nat_sum"), ("sumZ", "int_sum")]
 # names without a dash, and a type that was spelled as a word
-OTHERS = {"sumN": "nat_sum", "sumZ": "int_sum", "eqZ": "int_eq", "yes?": "is_yes", "inside?": "is_inside", "list-sound": "ListSound"}
+OTHERS = {"sumN": "nat_sum", "sumZ": "int_sum", "eqZ": "int_eq", "yes?": "is_yes", "inside?": "is_inside", "list-sound": "ListSound", "at-prepared": "at_prepared"}
 OPERATOR = re.compile(r"^[-+*/^<≤=≡∷ᵢℤ]+$")
 
 

@@ -27,7 +27,7 @@ use Rattle.law.specs.History.{Offer, game_of, offered, posted, range_of, setting
 use Rattle.law.specs.Decides.{decides, has_place, propose_questions, verdict, wholes}
 use Rattle.law.proofs.Alike.{Alike, iteration_alike, residual_alike}
 use Rattle.docket.specs.declared.desk.Desk.{Desk}
-use Rattle.docket.specs.declared.desk.Stage.TheVariants.{Prepared as at-prepared}
+use Rattle.docket.specs.declared.desk.Stage.TheVariants.{Prepared as at_prepared}
 use Rattle.docket.specs.declared.filling.Kind.{Kind}
 use Rattle.docket.specs.declared.filling.Kind.TheVariants.{Matrix, Payout}
 use Rattle.docket.specs.Filling.{FilledFrom, Reads, place_at, read_at}
@@ -159,7 +159,7 @@ module _ (S : ℕ) (M : Meaning) (h : List Given) (N : Meaning) (P : Type 0) (d 
       iteration_rest = λ i l. t.iteration_rest i (subst (λ n. n * n ≤ i) (sym n_is) l);
     }
 
-    pub proposal_accepted : (p : Prepared) → Proposed S s r g (Ok p) → Replied S M h (propose r g) (Ok Done) N P (record { figures = d.figures; stage = at-prepared p })
+    pub proposal_accepted : (p : Prepared) → Proposed S s r g (Ok p) → Replied S M h (propose r g) (Ok Done) N P (record { figures = d.figures; stage = at_prepared p })
     unfolding decides
     proposal_accepted p t = record {
       said = ap (verdict fault.Proposal) (sym t.0 ∙ first_same);

@@ -1,5 +1,5 @@
 // Trying one box, and running until one is accepted.
-ghost use Rattle.std.specs.Prelude.{◌≡◌, ◌≤◌, Err, ◌≢◌};
+ghost use Rattle.std.specs.Prelude.{◌≡◌, ◌≤◌, Err, IfOk, ◌≢◌};
 ghost use Rattle.method.specs.Method.{Game, Proposal};
 ghost use Rattle.prepare.specs.Proposals.{PreparedFor};
 ghost use Rattle.enclosure.specs.declared.fault.Fault.TheVariants.{OtherScale};
@@ -18,6 +18,7 @@ impl Enclosure {
     pub fn attempt<T: Scale>(prepared: &Prepared, numbers: &[i32]) -> Result<Enclosure, Fault>
         ensures scale { (T.Scale.unit ≢ prepared.now.units) → result ≡ Err (OtherScale prepared.now.units) }
         ensures tried { (G : Game) (H : Proposal) → PreparedFor T.Scale.unit G H prepared.now → Tried T.Scale.unit G H numbers.now result }
+        ensures kept { IfOk result (λ e. e.prepared ≡ prepared.now) }
     {
         if T::units() != i64::from(prepared.units()) {
             return Err(Fault::OtherScale {
@@ -43,6 +44,7 @@ impl Enclosure {
     pub fn run<T: Scale>(prepared: &Prepared, trials: u8) -> Result<(u8, Enclosure), Fault>
         ensures scale { (T.Scale.unit ≢ prepared.now.units) → result ≡ Err (OtherScale prepared.now.units) }
         ensures ran { (G : Game) (H : Proposal) → PreparedFor T.Scale.unit G H prepared.now → Ran T.Scale.unit G H trials result }
+        ensures kept { IfOk result (λ found. found.1.prepared ≡ prepared.now) }
     {
         if T::units() != i64::from(prepared.units()) {
             return Err(Fault::OtherScale {
@@ -59,7 +61,8 @@ impl Enclosure {
     fn first_accepted<T: Scale>(prepared: &Prepared, trials: u8) -> Result<(u8, Enclosure), Fault>
         requires scale { T.Scale.unit ≡ prepared.now.units }
         requires some { 1 ≤ trials }
-        ensures { (G : Game) (H : Proposal) → PreparedFor T.Scale.unit G H prepared.now → Found T.Scale.unit G H trials result }
+        ensures found { (G : Game) (H : Proposal) → PreparedFor T.Scale.unit G H prepared.now → Found T.Scale.unit G H trials result }
+        ensures kept { IfOk result (λ found. found.1.prepared ≡ prepared.now) }
     {
         let n = prepared.states();
         let mut number = 1;

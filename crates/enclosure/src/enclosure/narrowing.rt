@@ -16,6 +16,7 @@ impl Enclosure {
     pub fn narrow<T: Scale>(&mut self) -> Result<(), Fault>
         ensures scale { (T.Scale.unit ≢ self.old.prepared.units) → (result ≡ Err (OtherScale self.old.prepared.units)) × (self.new ≡ self.old) }
         ensures narrowed { (G : Game) (H : Proposal) (Y : ℕ → Interval) (m : ℕ) → Held T.Scale.unit G H Y m self.old → NarrowedTo T.Scale.unit G H Y m self.old self.new result }
+        ensures kept { self.new.prepared ≡ self.old.prepared }
     {
         let held = *self;
         if T::units() != i64::from(held.prepared.units()) {

@@ -1,4 +1,4 @@
-use Rattle.std.proofs.Common.{◌≡◌, ℕ, pred, ◌*◌, ◌^◌, ◌≤◌, true, false, ◌∷◌, Some, None, sym, refl, ap, ◌∙◌, subst, arith}
+use Rattle.std.proofs.Common.{◌≡◌, ℕ, pred, ◌*◌, ◌^◌, ◌≤◌, true, false, ◌∷◌, Some, None, sym, refl, ap, ◌∙◌, subst, arith, rules}
 use Rattle.std.proofs.lemmas.Result.{err_from_is_err_and}
 use Rattle.span.specs.Questions.{first_no}
 use Rattle.method.specs.Trials.{is_inside, worst}
@@ -20,6 +20,7 @@ returns-in_err-trial g c =
     record {
       scale = λ no. absurd (no (same_scale c.units.result c.from.result g.T.Scale.unit c.units-2.result p.units c.units.ensures c.from.ensures c.units-2.ensures c.if-units-from.false));
       tried = λ G H q. rw (e.1, e.2) (no_box g.T.Scale.unit G H p q ys c.in_err-trial.field-0.0 h);
+      kept = rw e.1 tt;
     }
 
 pub returns-in_err-limited : goal.returns-in_err-limited
@@ -34,6 +35,7 @@ returns-in_err-limited g c =
     record {
       scale = λ no. absurd (no (same_scale c.units.result c.from.result S c.units-2.result p.units c.units.ensures c.from.ensures c.units-2.ensures c.if-units-from.false));
       tried = λ G H q. rw (e.1, e.2) (no_size S G H p q ys y y b.1 b.0 c.in_err-limited.field-0.0 h);
+      kept = rw e.1 tt;
     }
 
 pub step-correction-requires : goal.step-correction-requires
@@ -75,6 +77,7 @@ returns-then-not-strictly_inside g c =
     record {
       scale = λ no. absurd (no (same_scale c.units.result c.from.result S c.units-2.result p.units c.units.ensures c.from.ensures c.units-2.ensures c.if-units-from.false));
       tried = λ G H q. no_acceptance S G H p q ys y v b.1 b.0 c.step-correction.ensures k (sym a) ∙ ap Some (sym w);
+      kept = search rules;
     }
 
 pub invariant_of-result : goal.invariant_of-result
@@ -104,4 +107,5 @@ returns g c =
     record {
       scale = λ no. absurd (no (same_scale c.units.result c.from.result S c.units-2.result p.units c.units.ensures c.from.ensures c.units-2.ensures c.if-units-from.false));
       tried = λ G H q. (all_yes S G H p q ys y v b.1 b.0 c.step-correction.ensures k (sym a), holds_accepted S G H (box ys) _ q b.1 c.step-correction.ensures refl (sym (accepts_as S G H p q (box ys) y v b.1 c.step-correction.ensures) ∙ sym a));
+      kept = search rules;
     }

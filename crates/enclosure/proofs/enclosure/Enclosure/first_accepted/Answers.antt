@@ -78,16 +78,16 @@ trials-preserved g c =
     let more : c.trials.number < c.args.trials = search rules in
     (omega arith, omega arith, c.grown-trial.ensures.long, λ G H q. let g = c.trials.invariant.3 G H q in going_next S G H p c.args.trials c.trials.number y v w q g some more c.step-correction.ensures hw (sizes_none S G H p q c.args.trials c.trials.number y v g k c.step-correction.ensures) (sym (accepts_here S G H p q c.args.trials c.trials.number y v g k c.step-correction.ensures) ∙ sym a))
 
-pub returns-in-Err : goal.returns-in-Err
-returns-in-Err g c G H q =
+pub returns-in-Err-clause-found : goal.returns-in-Err-clause-found
+returns-in-Err-clause-found g c G H q =
     let p = c.args.prepared.now in
     let y = c.trials.trial in
     let S : ℕ = g.T.Scale.unit in
     let h : first_no (reach_questions S p.states (spans y)) ≡ Some c.in-Err.fault = subst (λ n. first_no (reach_questions S n (spans y)) ≡ Some c.in-Err.fault) c.states-n.ensures c.in-Err.ensures in
     found_refused S G H p q c.args.trials c.trials.number y y (c.trials.invariant.3 G H q) c.in-Err.fault h
 
-pub returns-then-strictly_inside : goal.returns-then-strictly_inside
-returns-then-strictly_inside g c G H q =
+pub returns-then-strictly_inside-clause-found : goal.returns-then-strictly_inside-clause-found
+returns-then-strictly_inside-clause-found g c G H q =
     let p = c.args.prepared.now in
     let y = c.trials.trial in
     let v = c.step-correction.result in
@@ -99,8 +99,8 @@ returns-then-strictly_inside g c G H q =
       holds_accepted S G H (boxes S G H (pred c.trials.number)) _ q (trial_held S G H p q c.args.trials c.trials.number y v o) c.step-correction.ensures refl (sym (accepts_here S G H p q c.args.trials c.trials.number y v o k c.step-correction.ensures) ∙ sym a),
     )
 
-pub returns-then-number-trials : goal.returns-then-number-trials
-returns-then-number-trials g c G H q =
+pub returns-then-number-trials-clause-found : goal.returns-then-number-trials-clause-found
+returns-then-number-trials-clause-found g c G H q =
     let p = c.args.prepared.now in
     let y = c.trials.trial in
     let v = c.step-correction.result in

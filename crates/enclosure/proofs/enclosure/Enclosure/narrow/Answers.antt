@@ -12,6 +12,7 @@ returns-then-held-ge16 g c =
     record {
       scale = λ other. absurd (other (same_scale c.units.result c.from.result g.T.Scale.unit c.units-2.result e.prepared.units c.units.ensures c.from.ensures c.units-2.ensures c.if-units-from.false));
       narrowed = λ G H Y m h. (no_here _ _ _ (le-ltb m 16 (omega (arith, h.count, c.if-held-ge16.true))), refl);
+      kept = refl;
     }
 
 pub invariant_of-self : goal.invariant_of-self
@@ -31,4 +32,5 @@ returns g c =
     record {
       scale = λ other. absurd (other (same_scale c.units.result c.from.result g.T.Scale.unit c.units-2.result e.prepared.units c.units.ensures c.from.ensures c.units-2.ensures c.if-units-from.false));
       narrowed = λ G H Y m h. (no_after _ _ _ _ (lt-ltb m 16 (omega (arith, h.count, c.if-held-ge16.false))) no_none, narrower g.T.Scale.unit G H Y m e _ h c.step-correction.ensures h.of (λ i. refl) refl);
+      kept = refl;
     }
