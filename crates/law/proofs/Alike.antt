@@ -1,6 +1,6 @@
 -- games that agree at their own places have the same residual and iteration matrix
-use Rattle.std.proofs.Common.{◌≡◌, ℕ, zero, suc, ◌*◌, ◌<◌, ◌≤◌, cond, eqb, ℤ, pos, ◌-ℤ◌, ◌*ℤ◌, sym, refl, ap, ◌∙◌, subst, arith}
-use Rattle.span.specs.Intervals.{Interval, point, ◌+ᵢ◌, ◌-ᵢ◌, ◌*ᵢ◌, brought}
+use Rattle.std.proofs.Common.{◌≡◌, ℕ, zero, suc, ◌<◌, ◌≤◌, ℤ, ◌*ℤ◌, refl, ap, ◌∙◌, arith}
+use Rattle.span.specs.Intervals.{Interval, point, ◌*ᵢ◌, brought}
 use Rattle.method.specs.Method.{Game, Proposal, leftover, correction, residual, product, iteration}
 use Rattle.method.specs.Sums.{int_sum, sumᵢ}
 use Rattle.method.proofs.SumLaws.{sum_same}

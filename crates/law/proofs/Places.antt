@@ -1,5 +1,5 @@
 -- places that are the same, and what a source tells of one that it does not hold
-use Rattle.std.proofs.Common.{◌≡◌, ℕ, Bool, true, false, cond, ◌&&◌, ◌||◌, eqb, List, [], ◌∷◌, ℤ, pos, sym, refl, ap, ◌∙◌, inl, inr}
+use Rattle.std.proofs.Common.{◌≡◌, true, false, ◌&&◌, eqb, List, [], ◌∷◌, pos, sym, refl, ◌∙◌, inl, inr}
 use Rattle.std.proofs.lemmas.Bool.{and_parts, cases_Bool, cond-false, cond-true, eqb-true, or_parts, true≢false}
 use Rattle.source.specs.declared.place.Place.{Place}
 use Rattle.source.specs.declared.place.Place.TheVariants.{Matrix, Payout}

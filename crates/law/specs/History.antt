@@ -1,6 +1,6 @@
 -- what the calls as they are counted say; h has the accepted ones, the newest first
 use Rattle.std.specs.Prelude.{ℕ, suc, pred, Bool, cond, ◌||◌, List, [], ◌∷◌, ℤ, pos, ◌+ℤ◌, Some, None, Ok, Err, Option, Result, ◌==◌}
-use Rattle.span.specs.Intervals.{Interval, point, ◌+ᵢ◌}
+use Rattle.span.specs.Intervals.{Interval, point}
 use Rattle.method.specs.Method.{Game, Proposal, narrowed, held}
 use Rattle.method.specs.Trials.{boxes}
 use Rattle.prepare.specs.Proposals.{offer}

@@ -1,8 +1,9 @@
 // What a call of a docket is turned down with.
 ghost use Rattle.std.specs.Prelude.{◌≡◌};
-ghost use Rattle.law.specs.Faults.{number, layer, place};
+ghost use Rattle.law.specs.Faults.{number, layer, place, spot};
 
 use span::{Layer, Spot};
+use system::Place;
 
 // Whose question got a no, with that fault as it came.
 #[derive(Clone, Copy)]
@@ -49,9 +50,9 @@ impl Fault {
         ensures { result ≡ place self.now }
     {
         match self {
-            Fault::Figures(fault) => fault.place(),
-            Fault::Proposal(fault) => fault.place(),
-            Fault::Trial(fault) => fault.place(),
+            Fault::Figures(fault) => spot(fault.place()),
+            Fault::Proposal(fault) => spot(fault.place()),
+            Fault::Trial(fault) => spot(fault.place()),
             Fault::Source(fault) => fault.place(),
             _ => Spot {
                 part: 0,
@@ -59,5 +60,16 @@ impl Fault {
                 column: 0,
             },
         }
+    }
+}
+
+// A place of the figures, the proposal or a trial as every refusal names it.
+fn spot(place: Place) -> Spot
+    ensures { result ≡ spot place }
+{
+    Spot {
+        part: place.part,
+        row: place.row,
+        column: place.column,
     }
 }
