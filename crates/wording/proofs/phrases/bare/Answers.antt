@@ -6,5 +6,5 @@ use Rattle.wording.proofs.phrases.bare.Goals as goal
 pub returns-in-Err : goal.returns-in-Err
 returns-in-Err c =
     let n = c.number-number.ensures in
-    let l = c.layer-name-layer.ensures ∙ ap layer_text c.layer.ensures in
+    let l = c.layer_name-layer.ensures ∙ ap layer_text c.layer.ensures in
     worded c.format.result c.format.ensures.ok ((λ i. codes "no " ++ (decimal (n i) ++ (codes " " ++ (l i ++ codes " 0 0 0")))) ∙ sym (ap bare_text c.in-Err.is))
