@@ -1,5 +1,5 @@
 -- a call by its arm, and what each stage has for it
-use Rattle.std.proofs.Common.{◌≡◌, ℕ, List, ℤ, Some, None, Err, Result, sym, ap, subst, arith}
+use Rattle.std.proofs.Common.{◌≡◌, ℕ, List, ℤ, None, Err, Result, sym, ap, subst, arith}
 use Rattle.prepare.specs.declared.prepared.Prepared.{Prepared}
 use Rattle.enclosure.specs.declared.enclosure.Enclosure.{Enclosure}
 use Rattle.source.specs.Meaning.{Meaning}
@@ -9,7 +9,7 @@ use Rattle.law.specs.declared.fault.Fault.{Fault}
 use Rattle.law.specs.declared.fault.Fault.TheVariants.{NoProposal, NotHeld}
 use Rattle.law.specs.Calls.{Given, given}
 use Rattle.law.specs.Calls.Given.{attempt, run, narrow}
-use Rattle.law.specs.History.{Basis, Offer, holds, stands}
+use Rattle.law.specs.History.{Basis, holds, stands}
 use Rattle.law.specs.Decides.{decides, narrow_decided, run_decided, try_decided}
 use Rattle.law.specs.Law.{AtOnce}
 use Rattle.docket.specs.declared.desk.Desk.{Desk}
@@ -28,7 +28,7 @@ none_at_once S h t r e o s = let z : ◌≡◌ {A = ℕ} 0 1 = cc in absurd (ome
 
 -- what a held enclosure was tried with
 pub still_prepares : (S : ℕ) (h : List Given) (b : Basis) (e : Enclosure) (p : Prepared) → p ≡ e.prepared → Holds S h b e → Prepares S h b.offer p
-still_prepares S h b e p i s = subst (Prepares S h b.offer) (sym i) (record { stands_is = s.stands_is; asked_was = s.asked_was; prepared_is = s.enclosure_is.held.of })
+still_prepares S h b e p i s = subst (Prepares S h b.offer) (sym i) (record { stands_is = s.stands_is; asked_was = s.asked_was; prepared_is = s.enclosure_is.held.of; tabled = s.tabled })
 
 module _ (S : ℕ) (M : Meaning) (h : List Given) (N : Meaning) (P : Type 0) (d : Desk) (q : Reflects S M h N P d) where
   pub no_try : (ys : List ℤ) → stands h ≡ None → Replied S M h (attempt ys) (Err NoProposal) N P d

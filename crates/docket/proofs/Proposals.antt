@@ -1,34 +1,32 @@
 -- a proposal is asked of the posted equations, which is what was read from the source
-use Rattle.std.proofs.Common.{◌≡◌, ℕ, zero, suc, ◌+◌, ◌*◌, ◌/◌, ◌%◌, ◌<◌, ◌≤◌, Bool, true, false, cond, ◌&&◌, eqb, ltb, leb, List, [], ◌∷◌, ◌++◌, length, get_or, ℤ, pos, nat_abs, Some, None, Ok, Err, Result, sym, refl, ap, ◌∙◌, subst, inl, inr, mod-lt, div-lt_iff_lt-mul, one-mul, arith}
+use Rattle.std.proofs.Common.{◌≡◌, ℕ, zero, suc, ◌+◌, ◌*◌, ◌/◌, ◌%◌, ◌<◌, ◌≤◌, true, eqb, List, ◌∷◌, length, get_or, ℤ, pos, nat_abs, Ok, Err, sym, refl, ap, ◌∙◌, subst, inl, inr, mod-lt, div-lt_iff_lt-mul, arith}
 use Rattle.std.proofs.lemmas.List.{get_or_past}
 use Rattle.std.proofs.lemmas.Bool.{and_from, cases_Bool, cases_lt, cond-false, cond-true, eq-eqb, le-leb, leb-true, lt-ltb}
-use Rattle.span.specs.Questions.{Question, ask, each, ends_within, first_no, within}
+use Rattle.span.specs.Questions.{Question, ask, each, ends_within, first_no}
 use Rattle.method.specs.Method.{Game, Proposal, iteration, residual}
 use Rattle.system.specs.declared.fault.Fault as system
 use Rattle.system.specs.declared.system.System.{System}
-use Rattle.system.specs.Figures.{FirstBeyond, matrix_index, payout_index, spans}
-use Rattle.system.specs.Posts.{Beyond, Filled, With}
+use Rattle.system.specs.Figures.{matrix_index, payout_index, spans}
+use Rattle.system.specs.Posts.{Beyond, With}
 use Rattle.system.specs.Posts.Beyond.{in_matrix, in_payouts}
 use Rattle.system.proofs.Verdicts.{no_after}
 use Rattle.prepare.specs.declared.fault.Fault as prepare
-use Rattle.prepare.specs.declared.fault.Fault.TheVariants.{Count, IterationTooLarge, OtherScale, ResidualTooLarge}
+use Rattle.prepare.specs.declared.fault.Fault.TheVariants.{IterationTooLarge, OtherScale, ResidualTooLarge}
 use Rattle.prepare.specs.declared.prepared.Prepared.{Prepared}
 use Rattle.prepare.specs.Proposals as proposals
-use Rattle.prepare.specs.Proposals.{PreparedFor, Proposed, game, guess_questions, iteration_questions, offer, residual_questions, table_questions}
+use Rattle.prepare.specs.Proposals.{PreparedFor, Proposed, Tabled, game, guess_questions, iteration_questions, offer, residual_questions, table_questions}
 use Rattle.source.specs.declared.place.Place.{Place}
 use Rattle.source.specs.declared.place.Place.TheVariants as place
 use Rattle.source.specs.Meaning.{Meaning, told}
 use Rattle.law.specs.declared.answer.Answer.TheVariants.{Done}
-use Rattle.law.specs.declared.fault.Fault.{Fault}
 use Rattle.law.specs.declared.fault.Fault.TheVariants as fault
 use Rattle.law.specs.Calls.{Given}
 use Rattle.law.specs.Calls.Given.{propose}
-use Rattle.law.specs.History.{Offer, game_of, offered, posted, range_of, settings_of, states_of}
+use Rattle.law.specs.History.{game_of, posted, settings_of, states_of}
 use Rattle.law.specs.Decides.{decides, has_place, propose_questions, verdict, wholes}
 use Rattle.law.proofs.Alike.{Alike, iteration_alike, residual_alike}
 use Rattle.docket.specs.declared.desk.Desk.{Desk}
 use Rattle.docket.specs.declared.desk.Stage.TheVariants.{Prepared as at_prepared}
-use Rattle.docket.specs.declared.filling.Kind.{Kind}
 use Rattle.docket.specs.declared.filling.Kind.TheVariants.{Matrix, Payout}
 use Rattle.docket.specs.Filling.{FilledFrom, Reads, place_at, read_at}
 use Rattle.docket.specs.Reflects.{Reflects, Replied}
@@ -149,8 +147,6 @@ module _ (S : ℕ) (M : Meaning) (h : List Given) (N : Meaning) (P : Type 0) (d 
     transferred p t = record {
       units = t.units;
       states = t.states ∙ n_is;
-      table_is = λ i j l m. let a : i < s.states = subst (λ n. i < n) (sym n_is) l in let b : j < s.states = subst (λ n. j < n) (sym n_is) m in ap (λ n. get_or p.table (i * n + j) (pos 0)) (sym n_is) ∙ t.table_is i j a b ∙ ap (λ n. get_or r (i * n + j) (pos 0)) n_is;
-      table-rest = λ i l. t.table-rest i (subst (λ n. n * n ≤ i) (sym n_is) l);
       guess = λ i l. t.guess i (subst (λ n. i < n) (sym n_is) l);
       residual_is = λ i l. let m : i < s.states = subst (λ n. i < n) (sym n_is) l in t.residual_is i m ∙ residual_alike S (game s) (game_of h) (offer s.states r g) (offer (states_of h) r g) alike i m;
       iteration_is = λ i j l m. let a : i < s.states = subst (λ n. i < n) (sym n_is) l in let b : j < s.states = subst (λ n. j < n) (sym n_is) m in ap (λ n. spans p.iteration (i * n + j)) (sym n_is) ∙ t.iteration_is i j a b ∙ iteration_alike S (game s) (game_of h) (offer s.states r g) (offer (states_of h) r g) alike i j a b;
@@ -159,9 +155,12 @@ module _ (S : ℕ) (M : Meaning) (h : List Given) (N : Meaning) (P : Type 0) (d 
       iteration_rest = λ i l. t.iteration_rest i (subst (λ n. n * n ≤ i) (sym n_is) l);
     }
 
-    pub proposal_accepted : (p : Prepared) → Proposed S s r g (Ok p) → Replied S M h (propose r g) (Ok Done) N P (record { figures = d.figures; stage = at_prepared p })
+    transferred_table : (p : Prepared) → Tabled s.states (offer s.states r g) p → Tabled (states_of h) (offer (states_of h) r g) p
+    transferred_table p t = subst (λ n. Tabled n (offer n r g) p) n_is t
+
+    pub proposal_accepted : (p : Prepared) → Proposed S s r g (Ok p) → Tabled s.states (offer s.states r g) p → Replied S M h (propose r g) (Ok Done) N P (record { figures = d.figures; stage = at_prepared p })
     unfolding decides
-    proposal_accepted p t = record {
+    proposal_accepted p t b = record {
       said = ap (verdict fault.Proposal) (sym t.0 ∙ first_same);
       left = record {
         source_is = q.source_is;
@@ -173,6 +172,6 @@ module _ (S : ℕ) (M : Meaning) (h : List Given) (N : Meaning) (P : Type 0) (d 
         payouts_is = q.payouts_is;
         ranges_are = q.ranges_are;
         limited = q.limited;
-        stage_is = (record { table = r; guesses = g }, record { stands_is = refl; asked_was = sym first_same ∙ t.0; prepared_is = transferred p t.1 }, refl);
+        stage_is = (record { table = r; guesses = g }, record { stands_is = refl; asked_was = sym first_same ∙ t.0; prepared_is = transferred p t.1; tabled = transferred_table p b }, refl);
       };
     }

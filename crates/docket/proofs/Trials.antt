@@ -2,25 +2,22 @@
 use Rattle.std.proofs.Common.{◌≡◌, ℕ, zero, suc, pred, ◌<◌, Bool, true, false, cond, ltb, List, [], ◌∷◌, get_or, ℤ, pos, Some, None, Ok, Err, Option, Result, sym, refl, ap, ◌∙◌, subst, arith}
 use Rattle.std.proofs.lemmas.Bool.{cond-false, cond-true, ltb-true}
 use Rattle.span.specs.declared.span.Span.{Span}
-use Rattle.span.specs.Intervals.{Interval, point, ◌+ᵢ◌}
+use Rattle.span.specs.Intervals.{point, ◌+ᵢ◌}
 use Rattle.span.specs.Questions.{ask, first_no}
-use Rattle.span.specs.Spans.{ends}
 use Rattle.system.specs.Figures.{spans}
 use Rattle.method.specs.Method.{Game, Halved, Proposal}
 use Rattle.method.specs.Trials.{accepts, boxes}
 use Rattle.prepare.specs.declared.prepared.Prepared.{Prepared}
+use Rattle.prepare.specs.Proposals.{Tabled}
 use Rattle.prepare.proofs.Firsts.{first_yes}
 use Rattle.enclosure.specs.declared.enclosure.Enclosure.{Enclosure}
 use Rattle.enclosure.specs.declared.fault.Fault as enclosure
-use Rattle.enclosure.specs.declared.fault.Fault.TheVariants.{NoRow}
 use Rattle.enclosure.specs.Boxed.{box, count_question, order_questions}
 use Rattle.enclosure.specs.Enclosures as enclosures
 use Rattle.enclosure.specs.Enclosures.{Encloses, Narrower, RunAnswers, RunRefused, Tried, decided, narrow_questions, run_questions, size_questions, trials, try_questions}
 use Rattle.source.specs.Meaning.{Meaning}
 use Rattle.law.proofs.Nones.{none_after, none_before, none_later}
-use Rattle.law.specs.declared.answer.Answer.{Answer}
 use Rattle.law.specs.declared.answer.Answer.TheVariants.{Done, Trial}
-use Rattle.law.specs.declared.fault.Fault.{Fault}
 use Rattle.law.specs.declared.fault.Fault.TheVariants as fault
 use Rattle.law.specs.Calls.{Given}
 use Rattle.law.specs.Calls.Given.{attempt, run, narrow}
@@ -70,9 +67,9 @@ module _ (S : ℕ) (M : Meaning) (h : List Given) (N : Meaning) (P : Type 0) (d 
     unfolding decides
     try_refused ys f t = refused S M h N P d q (attempt ys) (fault.Trial f) (ap (λ x. try_decided S h x ys) s.stands_is ∙ ap (verdict fault.Trial) t)
 
-    pub try_accepted : (ys : List ℤ) (e : Enclosure) → Tried S (game_of h) (offered h o) ys (Ok e) → Replied S M h (attempt ys) (Ok Done) N P (record { figures = d.figures; stage = Holding e })
+    pub try_accepted : (ys : List ℤ) (e : Enclosure) → e.prepared ≡ p → Tried S (game_of h) (offered h o) ys (Ok e) → Replied S M h (attempt ys) (Ok Done) N P (record { figures = d.figures; stage = Holding e })
     unfolding decides
-    try_accepted ys e t = record {
+    try_accepted ys e k t = record {
       said = sym (ap (λ x. try_decided S h x ys) s.stands_is ∙ ap (verdict fault.Trial) t.0);
       left = record {
         source_is = q.source_is;
@@ -92,6 +89,7 @@ module _ (S : ℕ) (M : Meaning) (h : List Given) (N : Meaning) (P : Type 0) (d 
             holds_is = ap (λ x. tried x ys) s.stands_is;
             fits_was = tried_fits S (game_of h) (offered h o) ys t.0;
             enclosure_is = t.1;
+            tabled = subst (Tabled (states_of h) (offered h o)) (sym k) s.tabled;
           },
         );
       };
@@ -105,9 +103,9 @@ module _ (S : ℕ) (M : Meaning) (h : List Given) (N : Meaning) (P : Type 0) (d 
     unfolding decides
     run_refused t f a = refused S M h N P d q (run t) (fault.Trial f) (ap (λ x. run_decided S h x t) s.stands_is ∙ run_no t f (first_no (run_questions S (game_of h) (offered h o) t)) a)
 
-    pub run_accepted : (t a : ℕ) (e : Enclosure) → RunAnswers S (game_of h) (offered h o) t (Ok (a, e)) → Replied S M h (run t) (Ok (Trial a)) N P (record { figures = d.figures; stage = Holding e })
+    pub run_accepted : (t a : ℕ) (e : Enclosure) → e.prepared ≡ p → RunAnswers S (game_of h) (offered h o) t (Ok (a, e)) → Replied S M h (run t) (Ok (Trial a)) N P (record { figures = d.figures; stage = Holding e })
     unfolding decides
-    run_accepted t a e r = record {
+    run_accepted t a e k r = record {
       said = sym (ap (λ x. run_decided S h x t) s.stands_is ∙ ap (λ x. unless fault.Trial x (decides.numbered (trials S (game_of h) (offered h o) (pred t) 0))) r.0 ∙ ap decides.numbered r.1);
       left = record {
         source_is = q.source_is;
@@ -127,6 +125,7 @@ module _ (S : ℕ) (M : Meaning) (h : List Given) (N : Meaning) (P : Type 0) (d 
             fits_was = found_fits S (game_of h) (offered h o) (pred t) 0 a r.1;
             holds_is = ap (λ x. ran S h x t) s.stands_is ∙ ap (numbered o (boxes S (game_of h) (offered h o))) r.1;
             enclosure_is = r.2;
+            tabled = subst (Tabled (states_of h) (offered h o)) (sym k) s.tabled;
           },
         );
       };
@@ -137,9 +136,9 @@ module _ (S : ℕ) (M : Meaning) (h : List Given) (N : Meaning) (P : Type 0) (d 
     unfolding decides
     narrow_refused f t = refused S M h N P d q narrow (fault.Trial f) (ap (narrow_decided S h) s.holds_is ∙ ap (verdict fault.Trial) t)
 
-    pub narrow_accepted : (e' : Enclosure) → first_no (narrow_questions S (game_of h) (offered h b.offer) b.box b.narrowings) ≡ None → Narrower S (game_of h) (offered h b.offer) b.box b.narrowings e e' → Replied S M h narrow (Ok Done) N P (record { figures = d.figures; stage = Holding e' })
+    pub narrow_accepted : (e' : Enclosure) → e'.prepared ≡ e.prepared → first_no (narrow_questions S (game_of h) (offered h b.offer) b.box b.narrowings) ≡ None → Narrower S (game_of h) (offered h b.offer) b.box b.narrowings e e' → Replied S M h narrow (Ok Done) N P (record { figures = d.figures; stage = Holding e' })
     unfolding decides
-    narrow_accepted e' none t = record {
+    narrow_accepted e' k none t = record {
       said = sym (ap (narrow_decided S h) s.holds_is ∙ ap (verdict fault.Trial) none);
       left = record {
         source_is = q.source_is;
@@ -159,6 +158,7 @@ module _ (S : ℕ) (M : Meaning) (h : List Given) (N : Meaning) (P : Type 0) (d 
             fits_was = s.fits_was;
             holds_is = ap history.narrower s.holds_is;
             enclosure_is = record { held = t.held; sound = s.enclosure_is.sound };
+            tabled = subst (Tabled (states_of h) (offered h b.offer)) (sym k) s.tabled;
           },
         );
       };

@@ -1,13 +1,13 @@
 -- what a docket holds can be trusted
-use Rattle.std.proofs.Common.{◌≡◌, ℕ, ◌<◌, List, Some, None, sym, subst, arith}
+use Rattle.std.proofs.Common.{◌≡◌, ℕ, List, None, subst, arith}
 use Rattle.source.specs.Meaning.{Meaning}
 use Rattle.law.specs.Calls.{Given}
-use Rattle.law.specs.History.{Basis, holds}
+use Rattle.law.specs.History.{holds}
 use Rattle.law.specs.Law.{SoundHeld, Trusted}
 use Rattle.docket.specs.declared.desk.Desk.{Desk}
 use Rattle.docket.specs.declared.desk.Stage.{Stage}
 use Rattle.docket.specs.declared.desk.Stage.TheVariants.{Drafting, Prepared, Holding}
-use Rattle.docket.specs.Reflects.{Holds, Reflects, Staged}
+use Rattle.docket.specs.Reflects.{Reflects, Staged}
 
 nothing_held : (S : ℕ) (h : List Given) → holds S h ≡ None → SoundHeld S h
 nothing_held S h e some b k = let z : ◌≡◌ {A = ℕ} 0 1 = cc in absurd (omega arith)

@@ -3,7 +3,7 @@ use Rattle.std.specs.Prelude.{◌≡◌, ℕ, true, List, replicate, pos, Some, 
 use Rattle.span.specs.declared.span.Span.{Span}
 use Rattle.span.specs.Questions.{first_no, within}
 use Rattle.prepare.specs.declared.prepared.Prepared as prepare
-use Rattle.prepare.specs.Proposals.{PreparedFor}
+use Rattle.prepare.specs.Proposals.{PreparedFor, Tabled}
 use Rattle.enclosure.specs.declared.enclosure.Enclosure.{Enclosure}
 use Rattle.enclosure.specs.Enclosures.{Encloses, size_questions}
 use Rattle.system.specs.Figures.{spans}
@@ -24,6 +24,7 @@ pub record Prepares (S : ℕ) (h : List Given) (o : Offer) (p : prepare.Prepared
   pub stands_is : stands h ≡ Some o
   pub asked_was : first_no (propose_questions S h o.table o.guesses) ≡ None
   pub prepared_is : PreparedFor S (game_of h) (offered h o) p
+  pub tabled : Tabled (states_of h) (offered h o) p
 
 -- after the calls h ranges are held on the basis b, whose box is within its limit, and e holds them
 pub record Holds (S : ℕ) (h : List Given) (b : Basis) (e : Enclosure) : Type 0 where
@@ -32,6 +33,7 @@ pub record Holds (S : ℕ) (h : List Given) (b : Basis) (e : Enclosure) : Type 0
   pub holds_is : holds S h ≡ Some b
   pub fits_was : first_no (size_questions S (game_of h) (offered h b.offer) b.box) ≡ None
   pub enclosure_is : Encloses S (game_of h) (offered h b.offer) b.box b.narrowings e
+  pub tabled : Tabled (states_of h) (offered h b.offer) e.prepared
 
 -- the stage, and what is kept for it
 abbrev pub Staged : ℕ → List Given → Stage → Type 0

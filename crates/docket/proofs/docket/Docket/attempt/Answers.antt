@@ -5,7 +5,7 @@ use Rattle.docket.proofs.docket.Docket.attempt.Goals as goal
 pub returns-in-Ok : goal.returns-in-Ok
 returns-in-Ok g c = record {
   unmoved = tt;
-  replied = λ M h o q s. try_accepted _ M h _ _ _ q o _ s _ c.in-Ok.held (c.in-Ok.ensures.tried _ _ s.prepared_is);
+  replied = λ M h o q s. try_accepted _ M h _ _ _ q o _ s _ c.in-Ok.held c.in-Ok.ensures.kept (c.in-Ok.ensures.tried _ _ s.prepared_is);
 }
 
 pub returns-in-Err : goal.returns-in-Err

@@ -4,37 +4,37 @@ use Rattle.docket.specs.Reflects.{Staged}
 use Rattle.docket.proofs.Calls.{as_asked, at_once_as, no_narrow, no_run, no_try, none_at_once, still_prepares}
 use Rattle.docket.proofs.docket.Docket.call.Goals as goal
 
-pub returns-in-default-Open : goal.returns-in-default-Open
-returns-in-default-Open g c = record {
+pub returns-in_default-Open : goal.returns-in_default-Open
+returns-in_default-Open g c = record {
   unmoved = c.open.ensures.unmoved;
-  replied = λ M h q. as_asked _ M h _ _ _ _ _ _ c.in-default-Open.is-1 (c.open.ensures.replied M h q);
-  at_once = λ M h q. at_once_as _ h _ _ _ c.in-default-Open.is-1 tt;
+  replied = λ M h q. as_asked _ M h _ _ _ _ _ _ c.in_default-Open.is-1 (c.open.ensures.replied M h q);
+  at_once = λ M h q. at_once_as _ h _ _ _ c.in_default-Open.is-1 tt;
 }
 
-pub returns-in-default-Post : goal.returns-in-default-Post
-returns-in-default-Post g c =
-    let f : SFits w32 c.in-default-Post.amount = search rules in
+pub returns-in_default-Post : goal.returns-in_default-Post
+returns-in_default-Post g c =
+    let f : SFits w32 c.in_default-Post.amount = search rules in
     record {
       unmoved = c.post.ensures.unmoved;
-      replied = λ M h q. as_asked _ M h _ _ _ _ _ _ c.in-default-Post.is-1 (simp to_z-of_z at (c.post.ensures.replied M h q));
-      at_once = λ M h q. at_once_as _ h _ _ _ c.in-default-Post.is-1 tt;
+      replied = λ M h q. as_asked _ M h _ _ _ _ _ _ c.in_default-Post.is-1 (simp to_z-of_z at (c.post.ensures.replied M h q));
+      at_once = λ M h q. at_once_as _ h _ _ _ c.in_default-Post.is-1 tt;
     }
 
-pub returns-in-default-Range : goal.returns-in-default-Range
-returns-in-default-Range g c =
-    let f : SFits w32 c.in-default-Range.low = search rules in
-    let k : SFits w32 c.in-default-Range.high = search rules in
+pub returns-in_default-Range : goal.returns-in_default-Range
+returns-in_default-Range g c =
+    let f : SFits w32 c.in_default-Range.low = search rules in
+    let k : SFits w32 c.in_default-Range.high = search rules in
     record {
-      unmoved = c.set-range.ensures.unmoved;
-      replied = λ M h q. as_asked _ M h _ _ _ _ _ _ c.in-default-Range.is-1 (simp to_z-of_z at (c.set-range.ensures.replied M h q));
-      at_once = λ M h q. at_once_as _ h _ _ _ c.in-default-Range.is-1 tt;
+      unmoved = c.set_range.ensures.unmoved;
+      replied = λ M h q. as_asked _ M h _ _ _ _ _ _ c.in_default-Range.is-1 (simp to_z-of_z at (c.set_range.ensures.replied M h q));
+      at_once = λ M h q. at_once_as _ h _ _ _ c.in_default-Range.is-1 tt;
     }
 
-pub returns-in-default-Propose : goal.returns-in-default-Propose
-returns-in-default-Propose g c = record {
+pub returns-in_default-Propose : goal.returns-in_default-Propose
+returns-in_default-Propose g c = record {
   unmoved = c.propose.ensures.unmoved;
-  replied = λ M h q. as_asked _ M h _ _ _ _ _ _ c.in-default-Propose.is-1 (c.propose.ensures.replied M h q);
-  at_once = λ M h q. at_once_as _ h _ _ _ c.in-default-Propose.is-1 tt;
+  replied = λ M h q. as_asked _ M h _ _ _ _ _ _ c.in_default-Propose.is-1 (c.propose.ensures.replied M h q);
+  at_once = λ M h q. at_once_as _ h _ _ _ c.in_default-Propose.is-1 tt;
 }
 
 pub returns-in-Drafting-Try : goal.returns-in-Drafting-Try

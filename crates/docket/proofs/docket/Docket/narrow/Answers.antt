@@ -5,7 +5,7 @@ use Rattle.docket.proofs.docket.Docket.narrow.Goals as goal
 pub returns-in-Ok : goal.returns-in-Ok
 returns-in-Ok g c = record {
   unmoved = tt;
-  replied = λ M h b q s. let n = c.in-Ok.ensures.narrowed _ _ _ _ s.enclosure_is.held in narrow_accepted _ M h _ _ _ q b _ s _ n.0 n.1;
+  replied = λ M h b q s. let n = c.in-Ok.ensures.narrowed _ _ _ _ s.enclosure_is.held in narrow_accepted _ M h _ _ _ q b _ s _ c.in-Ok.ensures.kept n.0 n.1;
 }
 
 pub returns-in-Err : goal.returns-in-Err

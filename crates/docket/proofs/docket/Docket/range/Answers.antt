@@ -1,4 +1,4 @@
-use Rattle.std.proofs.Common.{◌<◌, ◌≤◌, length, sym, ap, ◌∙◌, subst}
+use Rattle.std.proofs.Common.{sym, ap, ◌∙◌}
 use Rattle.span.specs.Spans.{ends}
 use Rattle.system.specs.Figures.{spans}
 use Rattle.enclosure.proofs.Rows.{spans_read, spans_past}

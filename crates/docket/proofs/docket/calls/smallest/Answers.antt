@@ -1,4 +1,4 @@
-use Rattle.std.proofs.Common.{◌≡◌, ℕ, Some, None, refl, arith}
+use Rattle.std.proofs.Common.{◌≡◌, ℕ, None, refl, arith}
 use Rattle.span.specs.Questions.{first_no}
 use Rattle.system.specs.Posts.{opening_questions}
 use Rattle.docket.proofs.docket.calls.smallest.Goals as goal
