@@ -1,12 +1,11 @@
 -- the rows that a recheck keeps, after one more
-use Rattle.std.proofs.Common.{◌≡◌, ℕ, ◌+◌, ◌<◌, ◌≤◌, List, length, set, Ok, Err, Result, sym, ap, ◌∙◌, subst, inl, inr, eq-or-lt_of_le, arith}
+use Rattle.std.proofs.Common.{◌≡◌, ℕ, ◌+◌, ◌<◌, ◌≤◌, List, length, set, Ok, Err, Result, sym, ◌∙◌, subst, inl, inr, eq-or-lt_of_le, arith}
 use Rattle.span.specs.declared.span.Span.{Span}
 use Rattle.span.specs.Intervals.{Interval}
 use Rattle.span.specs.Spans.{ends}
 use Rattle.system.specs.Figures.{spans}
 use Rattle.system.proofs.Ranges.{spans_set_elsewhere, spans_set_here}
 use Rattle.law.specs.declared.fault.Fault.{Fault}
-use Rattle.law.specs.Law.{told_ends}
 
 -- told i is what is decided of row i
 module _ (told : ℕ → Result Interval Fault) (xs : List Span) (t : ℕ) (before : (i : ℕ) (s : Interval) → i < t → told i ≡ Ok s → spans xs i ≡ s) where

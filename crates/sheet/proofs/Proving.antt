@@ -2,7 +2,6 @@
 use Rattle.std.proofs.Common.{◌≡◌, ℕ, ◌-◌, Bool, true, false, cond, eqb, List, [], ◌∷◌, Some, None, Ok, Err, Option, Result, sym, refl, ap, ◌∙◌, subst, arith}
 use Rattle.std.proofs.lemmas.Bool.{cond-false, cond-true}
 use Rattle.span.specs.Questions.{first_no}
-use Rattle.system.specs.Posts.{opening_questions}
 use Rattle.source.specs.Meaning.{Meaning}
 use Rattle.law.specs.declared.answer.Answer.{Answer}
 use Rattle.law.specs.declared.fault.Fault as law
@@ -17,7 +16,7 @@ use Rattle.sheet.specs.declared.fault.Fault.{Fault}
 use Rattle.sheet.specs.declared.fault.Fault.TheVariants.{Docket, OtherScale}
 use Rattle.sheet.specs.declared.rechecked.Rechecked.{Rechecked}
 use Rattle.sheet.specs.Layout.{sheet_length}
-use Rattle.sheet.specs.Outcomes.{AfterOpening, Keeps, Rechecking}
+use Rattle.sheet.specs.Outcomes.{AfterOpening, Rechecking}
 use Rattle.sheet.specs.Rechecks.{Read, calls_of, claim_questions, left_by, makes, rechecks, remade, then_claimed, then_left, then_made, unless_claimed}
 use Rattle.sheet.specs.Sheets.{Sheet}
 use Rattle.sheet.proofs.Making.{makes_counts}

@@ -29,7 +29,7 @@ module _ (S : ℕ) (h : List Given) (b : Basis) (e : Enclosure) (s : Holds S h b
   table_held u l =
       let n : ℕ = states_of h in
       let some : 0 < n = omega (arith, s.enclosure_is.held.of.states, e.prepared.size.0) in
-      subst (λ t. get_or e.prepared.table t (pos 0) ≡ get_or b.offer.table t (pos 0)) (div-add-mod' u n) (s.enclosure_is.held.of.table_is (u / n) (u % n) ((div-lt_iff_lt-mul some).1 l) (mod-lt u some))
+      subst (λ t. get_or e.prepared.table t (pos 0) ≡ get_or b.offer.table t (pos 0)) (div-add-mod' u n) (s.tabled.table_is (u / n) (u % n) ((div-lt_iff_lt-mul some).1 l) (mod-lt u some))
 
   box_size : (i : ℕ) → i < states_of h → size (spans e.trial i) ≤ 100 * S
   box_size i l = subst (λ r. size r ≤ 100 * S) (sym (s.enclosure_is.held.trial_is i l)) (known_near S (b.box i) (each_yes (states_of h) _ s.fits_was i l))

@@ -1,5 +1,5 @@
 -- little-endian numbers of 32 bits in bytes
-use Rattle.std.specs.Prelude.{ℕ, ◌+◌, ◌-◌, ◌*◌, ◌<◌, cond, List, ℤ, pos, negsuc, nat_lt, slice_index}
+use Rattle.std.specs.Prelude.{ℕ, ◌+◌, ◌-◌, ◌*◌, cond, List, ℤ, pos, negsuc, nat_lt, slice_index}
 
 -- four bytes, the least first; 0 past the last byte
 abbrev pub unsigned_at : List ℕ → ℕ → ℕ

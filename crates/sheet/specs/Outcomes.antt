@@ -1,9 +1,8 @@
 -- what a recheck comes to, and what it leaves
-use Rattle.std.specs.Prelude.{◌≡◌, ℕ, ◌<◌, List, ◌∷◌, Ok, Err, Result}
+use Rattle.std.specs.Prelude.{◌≡◌, ℕ, ◌<◌, List, Ok, Err, Result}
 use Rattle.span.specs.Intervals.{Interval}
 use Rattle.system.specs.Figures.{spans}
 use Rattle.source.specs.Meaning.{Meaning}
-use Rattle.law.specs.declared.fault.Fault as law
 use Rattle.law.specs.Calls.{Given}
 use Rattle.law.specs.History.{holds}
 use Rattle.law.specs.Decides.{row_decided}

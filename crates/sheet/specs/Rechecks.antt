@@ -1,12 +1,11 @@
 -- rechecking: the calls that a sheet makes, and what comes of them
-use Rattle.std.specs.Prelude.{◌≡◌, ℕ, zero, suc, ◌+◌, ◌-◌, ◌*◌, ◌/◌, ◌%◌, ◌<◌, Bool, true, false, cond, List, [], ◌∷◌, ◌++◌, ℤ, pos, negsuc, Some, None, Ok, Err, Option, Result, ◌==◌}
+use Rattle.std.specs.Prelude.{ℕ, zero, suc, ◌+◌, ◌-◌, ◌*◌, ◌/◌, ◌%◌, Bool, false, cond, List, [], ◌∷◌, ◌++◌, ℤ, pos, negsuc, Some, None, Ok, Err, Option, Result, ◌==◌}
 use Rattle.span.specs.Intervals.{Interval}
 use Rattle.span.specs.Questions.{Question, ask, each, first_no}
 use Rattle.source.specs.Meaning.{Meaning}
-use Rattle.law.specs.declared.answer.Answer.{Answer}
 use Rattle.law.specs.declared.fault.Fault as law
 use Rattle.law.specs.Calls.{Given}
-use Rattle.law.specs.Calls.Given.{opening, post, range, propose, attempt, run, narrow}
+use Rattle.law.specs.Calls.Given.{opening, post, range, propose, attempt, narrow}
 use Rattle.law.specs.History.{holds}
 use Rattle.law.specs.Decides.{decides, row_decided}
 use Rattle.sheet.specs.declared.fault.Fault.{Fault}

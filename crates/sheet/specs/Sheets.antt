@@ -1,5 +1,5 @@
 -- what a sheet says: its scale, n, k and narrowings, and its numbers in their order
-use Rattle.std.specs.Prelude.{ℕ, suc, ◌+◌, ◌-◌, ◌*◌, ◌/◌, ◌%◌, cond, List, ℤ, pos, ◌==◌, nat_lt, slice_index_or}
+use Rattle.std.specs.Prelude.{ℕ, suc, ◌-◌, ◌/◌, ◌%◌, cond, List, ℤ, pos, ◌==◌, nat_lt, slice_index_or}
 use Rattle.span.specs.Intervals.{Interval}
 use Rattle.law.specs.Calls.{Given}
 use Rattle.law.specs.History.{Basis, posted, range_held, range_of, settings_of, states_of}

@@ -5,11 +5,11 @@ use Rattle.sheet.proofs.writing.put_numbers.Goals as goal
 
 pub loop-t-preserved : goal.loop-t-preserved
 loop-t-preserved g c =
-    let f : SFits w32 c.number-of.result = search rules in (
+    let f : SFits w32 c.number_of.result = search rules in (
       below_more _ _
-          (λ i l M h b q s. same_number _ c.loop-t.buffer (4 * i) (λ j k m. c.put-number.ensures.before j (omega arith)) ∙ c.loop-t.invariant.0 i l M h b q s)
-          (λ M h b q s. c.put-number.ensures.here ∙ to_z-of_z w32 c.number-of.result f ∙ c.number-of.ensures M h b q s),
-      λ i l. c.put-number.ensures.after i (omega arith) ∙ c.loop-t.invariant.1 i (omega arith),
+          (λ i l M h b q s. same_number _ c.loop-t.buffer (4 * i) (λ j k m. c.put_number.ensures.before j (omega arith)) ∙ c.loop-t.invariant.0 i l M h b q s)
+          (λ M h b q s. c.put_number.ensures.here ∙ to_z-of_z w32 c.number_of.result f ∙ c.number_of.ensures M h b q s),
+      λ i l. c.put_number.ensures.after i (omega arith) ∙ c.loop-t.invariant.1 i (omega arith),
     )
 
 pub returns : goal.returns

@@ -1,6 +1,5 @@
-use Rattle.std.proofs.Common.{◌≡◌, ℕ, ◌+◌, ◌-◌, ◌*◌, ◌≤◌, length, take, sym, ap, ◌∙◌, subst, arith}
+use Rattle.std.proofs.Common.{◌≡◌, ℕ, ◌+◌, ◌-◌, ◌*◌, ◌≤◌, length, take, ap, ◌∙◌, arith}
 use Rattle.law.specs.Calls.Given.{attempt}
-use Rattle.docket.specs.Reflects.{Replied}
 use Rattle.sheet.specs.Framing.{sheet_in}
 use Rattle.sheet.specs.Layout.{at_box}
 use Rattle.sheet.specs.Rechecks.{listed}

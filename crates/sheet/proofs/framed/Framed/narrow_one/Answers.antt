@@ -1,4 +1,4 @@
-use Rattle.std.proofs.Common.{◌-◌, ap, ◌∙◌, subst}
+use Rattle.std.proofs.Common.{◌-◌, ap, ◌∙◌}
 use Rattle.sheet.specs.Layout.{sheet_length}
 use Rattle.sheet.specs.Remakes.{as_made}
 use Rattle.sheet.proofs.Making.{made_as}

@@ -1,4 +1,4 @@
-use Rattle.std.proofs.Common.{◌≡◌, ◌∷◌, Some, None, sym, refl, ap, ◌∙◌, subst}
+use Rattle.std.proofs.Common.{◌≡◌, ◌∷◌, sym, refl, ap, ◌∙◌}
 use Rattle.std.proofs.lemmas.Result.{err_from_is_err_and}
 use Rattle.span.specs.Questions.{first_no}
 use Rattle.enclosure.proofs.Scales as scales
@@ -12,33 +12,33 @@ returns-then-length-lt28 g c = too_short _ _ c.if-length-lt28.true
 pub returns-then-from-units : goal.returns-then-from-units
 returns-then-from-units g c =
     other_scale _ _ c.if-length-lt28.false
-    (λ e. scales.other_scale c.units.result c.from.result g.T.Scale.unit c.unsigned-at-units.result c.unsigned-at-units.result c.units.ensures c.from.ensures refl (λ i. c.if-from-units.true (sym i)) (sym (c.unsigned-at-units.ensures ∙ e)))
+    (λ e. scales.other_scale c.units.result c.from.result g.T.Scale.unit c.unsigned_at-units.result c.unsigned_at-units.result c.units.ensures c.from.ensures refl (λ i. c.if-from-units.true (sym i)) (sym (c.unsigned_at-units.ensures ∙ e)))
 
-pub returns-in-err-states : goal.returns-in-err-states
-returns-in-err-states g c =
-    let p = err_from_is_err_and c.from-residual.result c.from-residual.ensures.1 in
-    let u : g.T.Scale.unit ≡ c.unsigned-at-units.result = scales.same_scale c.units.result c.from.result g.T.Scale.unit c.unsigned-at-units.result _ c.units.ensures c.from.ensures refl (sym c.if-from-units.false) in
-    rw (p.1, p.2) (head_no _ _ c.if-length-lt28.false (sym (u ∙ c.unsigned-at-units.ensures)) _ c.in-err-states.ensures)
+pub returns-in_err-states : goal.returns-in_err-states
+returns-in_err-states g c =
+    let p = err_from_is_err_and c.from_residual.result c.from_residual.ensures.1 in
+    let u : g.T.Scale.unit ≡ c.unsigned_at-units.result = scales.same_scale c.units.result c.from.result g.T.Scale.unit c.unsigned_at-units.result _ c.units.ensures c.from.ensures refl (sym c.if-from-units.false) in
+    rw (p.1, p.2) (head_no _ _ c.if-length-lt28.false (sym (u ∙ c.unsigned_at-units.ensures)) _ c.in_err-states.ensures)
 
-pub returns-in-err-measured : goal.returns-in-err-measured
-returns-in-err-measured g c =
+pub returns-in_err-measured : goal.returns-in_err-measured
+returns-in_err-measured g c =
     let bs = c.args.bytes.now in
-    let p = err_from_is_err_and c.from-residual-in-err-measured.result c.from-residual-in-err-measured.ensures.1 in
-    let u : g.T.Scale.unit ≡ c.unsigned-at-units.result = scales.same_scale c.units.result c.from.result g.T.Scale.unit c.unsigned-at-units.result _ c.units.ensures c.from.ensures refl (sym c.if-from-units.false) in
-    let y = c.in-ok-states.ensures in
+    let p = err_from_is_err_and c.from_residual-in_err-measured.result c.from_residual-in_err-measured.ensures.1 in
+    let u : g.T.Scale.unit ≡ c.unsigned_at-units.result = scales.same_scale c.units.result c.from.result g.T.Scale.unit c.unsigned_at-units.result _ c.units.ensures c.from.ensures refl (sym c.if-from-units.false) in
+    let y = c.in_ok-states.ensures in
     let n = c.new.ensures.0 ∙ y.1 in
     let k = c.new.ensures.1 ∙ y.2 in
     let x = ap (λ z. first_no (length_asked bs z c.new.result.settings ∷ distances_asked bs z c.new.result.settings)) (sym n) in
-    rw (p.1, p.2) (rest_decides _ _ c.if-length-lt28.false (sym (u ∙ c.unsigned-at-units.ensures)) y.0 ∙ ap (λ z. first_no (length_asked bs (n_at 0 bs) z ∷ distances_asked bs (n_at 0 bs) z)) (sym k) ∙ x ∙ c.in-err-measured.ensures)
+    rw (p.1, p.2) (rest_decides _ _ c.if-length-lt28.false (sym (u ∙ c.unsigned_at-units.ensures)) y.0 ∙ ap (λ z. first_no (length_asked bs (n_at 0 bs) z ∷ distances_asked bs (n_at 0 bs) z)) (sym k) ∙ x ∙ c.in_err-measured.ensures)
 
 pub returns : goal.returns
 returns g c =
     let bs = c.args.bytes.now in
-    let u : g.T.Scale.unit ≡ c.unsigned-at-units.result = scales.same_scale c.units.result c.from.result g.T.Scale.unit c.unsigned-at-units.result _ c.units.ensures c.from.ensures refl (sym c.if-from-units.false) in
-    let y = c.in-ok-states.ensures in
+    let u : g.T.Scale.unit ≡ c.unsigned_at-units.result = scales.same_scale c.units.result c.from.result g.T.Scale.unit c.unsigned_at-units.result _ c.units.ensures c.from.ensures refl (sym c.if-from-units.false) in
+    let y = c.in_ok-states.ensures in
     let n = c.new.ensures.0 ∙ y.1 in
     let k = c.new.ensures.1 ∙ y.2 in
     let x = ap (λ z. first_no (length_asked bs z c.new.result.settings ∷ distances_asked bs z c.new.result.settings)) (sym n) in (
-      rest_decides _ _ c.if-length-lt28.false (sym (u ∙ c.unsigned-at-units.ensures)) y.0 ∙ ap (λ z. first_no (length_asked bs (n_at 0 bs) z ∷ distances_asked bs (n_at 0 bs) z)) (sym k) ∙ x ∙ c.in-ok-measured.ensures,
+      rest_decides _ _ c.if-length-lt28.false (sym (u ∙ c.unsigned_at-units.ensures)) y.0 ∙ ap (λ z. first_no (length_asked bs (n_at 0 bs) z ∷ distances_asked bs (n_at 0 bs) z)) (sym k) ∙ x ∙ c.in_ok-measured.ensures,
       record { bytes_is = refl; scale_is = sym u; states_is = y.1; settings_is = y.2; narrowings_is = y.3 },
     )

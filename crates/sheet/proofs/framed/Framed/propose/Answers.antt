@@ -1,4 +1,4 @@
-use Rattle.std.proofs.Common.{◌≡◌, ℕ, ◌+◌, ◌-◌, ◌*◌, ◌<◌, ◌≤◌, length, take, sym, ap, ◌∙◌, subst, mul-le-mul, arith, rules}
+use Rattle.std.proofs.Common.{◌≡◌, ℕ, ◌+◌, ◌-◌, ◌*◌, ◌≤◌, length, take, ap, ◌∙◌, mul-le-mul, arith, rules}
 use Rattle.law.specs.Calls.Given.{propose}
 use Rattle.sheet.specs.Framing.{sheet_in}
 use Rattle.sheet.specs.Layout.{at_guesses, at_table}
@@ -8,8 +8,8 @@ use Rattle.sheet.proofs.Listing.{is_taken}
 use Rattle.sheet.proofs.Making.{made_given}
 use Rattle.sheet.proofs.framed.Framed.propose.Goals as goal
 
-pub slice-bounds-call-end : goal.slice-bounds-call-end
-slice-bounds-call-end g c =
+pub slice_bounds-call-end : goal.slice_bounds-call-end
+slice_bounds-call-end g c =
     let n : ℕ = c.layout-layout.result.states in
     let few : n ≤ 12 = omega (arith, c.layout-layout.ensures.0, c.requires) in
     let square : n * n ≤ 144 = mul-le-mul few few in

@@ -5,7 +5,7 @@ use Rattle.law.specs.Decides.{row_decided}
 use Rattle.law.specs.History.{holds}
 use Rattle.sheet.proofs.Keeping.{kept_more, kept_same}
 use Rattle.sheet.proofs.framed.rechecking.kept.Goals as goal
-use Rattle.sheet.proofs.framed.rechecking.kept.Goals.{in-Ok, in-default}
+use Rattle.sheet.proofs.framed.rechecking.kept.Goals.{in-Ok, in_default}
 
 pub loop-row-init : goal.loop-row-init
 loop-row-init g c = (refl, λ M h q i s l. elim l [ ])
@@ -16,9 +16,9 @@ loop-row-preserved g c = elim c.match-row.branch [
     ap length w.ranges-is ∙ length-set c.loop-row.ranges c.loop-row.row _ ∙ c.loop-row.invariant.0,
     λ M h q i s l k. subst (λ xs. spans xs i ≡ s) (sym w.ranges-is) (kept_more (row_decided g.T.Scale.unit h (holds g.T.Scale.unit h)) c.loop-row.ranges c.loop-row.row (c.loop-row.invariant.1 M h q) w.in-Ok.range (omega (arith, c.loop-row.invariant.0, c.loop-row-test.true, c.from-row-end.ensures, c.requires)) (w.in-Ok.ensures M h q) i s l k),
   )
-  | in-default w ↦ (
+  | in_default w ↦ (
     ap length w.ranges-is ∙ c.loop-row.invariant.0,
-    λ M h q i s l k. subst (λ xs. spans xs i ≡ s) (sym w.ranges-is) (kept_same (row_decided g.T.Scale.unit h (holds g.T.Scale.unit h)) c.loop-row.ranges c.loop-row.row (c.loop-row.invariant.1 M h q) w.in-default.field-0 (w.in-default.ensures M h q) i s l k),
+    λ M h q i s l k. subst (λ xs. spans xs i ≡ s) (sym w.ranges-is) (kept_same (row_decided g.T.Scale.unit h (holds g.T.Scale.unit h)) c.loop-row.ranges c.loop-row.row (c.loop-row.invariant.1 M h q) w.in_default.field-0 (w.in_default.ensures M h q) i s l k),
   )
 ]
 
