@@ -1,12 +1,11 @@
 -- a recheck counts as an opening, or as the calls that it makes
-use Rattle.std.proofs.Common.{◌≡◌, ℕ, ◌-◌, ◌*◌, true, false, List, [], ◌∷◌, ◌++◌, Some, None, Ok, Err, Option, Result, sym, refl, ap, ◌∙◌, subst, arith}
-use Rattle.std.proofs.lemmas.Bool.{and_from, and_parts}
+use Rattle.std.proofs.Common.{◌≡◌, ℕ, ◌*◌, List, Some, None, Ok, Err, Result, sym, refl, ap, ◌∙◌, subst}
+use Rattle.std.proofs.lemmas.Bool.{and_from}
 use Rattle.span.specs.Questions.{first_no}
 use Rattle.system.proofs.Verdicts.{no_after, no_none}
 use Rattle.prepare.proofs.Firsts.{first_yes}
 use Rattle.source.specs.Meaning.{Meaning}
 use Rattle.law.specs.declared.answer.Answer.TheVariants.{Done}
-use Rattle.law.specs.declared.fault.Fault as law
 use Rattle.law.specs.declared.fault.Fault.TheVariants.{Figures}
 use Rattle.law.specs.Calls.{Given}
 use Rattle.law.specs.Calls.Given.{opening}
@@ -19,11 +18,9 @@ use Rattle.sheet.specs.declared.framed.Framed.{Framed}
 use Rattle.sheet.specs.declared.rechecked.Rechecked.{Rechecked}
 use Rattle.sheet.specs.Bytes.{number_at}
 use Rattle.sheet.specs.Framing.{Frames, framed_sheet, framing_questions, head_questions, k_at, m_at, n_at, sheet_in}
-use Rattle.sheet.specs.Layout.{sheet_length}
 use Rattle.sheet.specs.Outcomes.{RecheckedAs, Rechecking}
-use Rattle.sheet.specs.Rechecks.{Read, calls_of, left_by, makes, rechecks, remade, then_claimed, then_left, then_made}
+use Rattle.sheet.specs.Rechecks.{left_by, rechecks, then_left}
 use Rattle.sheet.specs.Sheets.{Sheet}
-use Rattle.sheet.proofs.Making.{makes_counts}
 use Rattle.sheet.proofs.Proving.{accepted_calls}
 use Rattle.filing.specs.Law.{CheckRight, check_counted, onto}
 use Rattle.filing.specs.Law.Turn.{checked}

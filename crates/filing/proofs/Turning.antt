@@ -10,7 +10,7 @@ use Rattle.sheet.specs.declared.fault.Fault.{Fault}
 use Rattle.sheet.specs.Writing.{Writing}
 use Rattle.filing.specs.declared.step.Outcome.{Outcome}
 use Rattle.filing.specs.declared.step.Step.{Step}
-use Rattle.filing.specs.Law.{Lawful, Right, Turn, counted, then_counted, turn, turns}
+use Rattle.filing.specs.Law.{Lawful, Turn, counted, then_counted, turn, turns}
 use Rattle.filing.specs.Turns.{Turned}
 
 -- so far every turn was right, and the docket reflects the calls that count

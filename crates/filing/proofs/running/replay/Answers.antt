@@ -12,12 +12,12 @@ loop-step-init g c =
 pub loop-step-preserved : goal.loop-step-preserved
 loop-step-preserved g c =
     let rs = vec_items c.loop-step.outcomes in
-    let grown = c.in-ok-push.ensures.items in
+    let grown = c.in_ok-push.ensures.items in
     let long = c.loop-step.invariant.0 in (
       ap length grown ∙ length_push rs _ ∙ ap (λ n. n + 1) long,
       λ M q.
           let s = c.loop-step.invariant.1 M q in
-          let t = c.in-ok-taken.ensures M _ s.reflects in
+          let t = c.in_ok-taken.ensures M _ s.reflects in
           so_far_as _ M _ _ _ _ _ (turns_taken g.T.Scale.unit g.F.Scale.unit c.args.steps.now rs _ c.loop-step.step-index _ _ c.loop-step-test.true long grown) (one_more _ M _ _ _ _ _ s.lawful t),
     )
 
