@@ -6,6 +6,7 @@ use span::Millionths;
 use system::System;
 
 // Posts 600,000, 400,000 and 1 at one matrix place, and tells what the last was turned down with.
+#[tactic(auto, using(crate::proofs::Computed::filed))]
 pub fn three_posts() -> Option<u8>
     ensures { Filed }
 {
