@@ -15,6 +15,7 @@ mod tally;
 mod teller;
 
 use options::Settings;
+use std::process::ExitCode;
 use std::{env, io};
 use tally::Tally;
 
@@ -29,17 +30,13 @@ worth < FILE      answers the calls of standard input
   --help                        this text
 ";
 
-// Ends the process with status 1.
-#[derive(Drop)]
-struct Unclean;
-
-fn main(rt: HostRuntime) -> Result<(), Unclean> {
+fn main(rt: HostRuntime) -> ExitCode {
     match run(&rt) {
-        Ok(true) => Ok(()),
-        Ok(false) => Err(Unclean),
+        Ok(true) => ExitCode::SUCCESS,
+        Ok(false) => ExitCode::FAILURE,
         Err(error) => {
             let _ = eprintln!(rt; "worth: {error}");
-            Err(Unclean)
+            ExitCode::FAILURE
         }
     }
 }
