@@ -9,7 +9,7 @@ use Rattle.asking.specs.declared.asked.Asked.{Asked}
 use Rattle.asking.specs.declared.figure.Form.TheVariants as form
 use Rattle.asking.specs.declared.mistake.Mistake.{Mistake}
 use Rattle.asking.specs.declared.mistake.Mistake.TheVariants.{NoStroke}
-use Rattle.asking.specs.Figures.{Amount, Told}
+use Rattle.asking.specs.Figures.{Amount}
 use Rattle.asking.specs.Lines.{Amounts, Got, Parted, at, texts}
 use Rattle.asking.proofs.Words.{amount, no_amount, passed}
 

@@ -1,5 +1,5 @@
 -- words read one after another: where one is a number the next is asked, else it is told
-use Rattle.std.proofs.Common.{◌≡◌, ℕ, ◌<◌, List, [], length, get_or, ℤ, Ok, Err, Result, sym, refl, ap, ◌∙◌, subst, arith, Bor}
+use Rattle.std.proofs.Common.{◌≡◌, ℕ, ◌<◌, List, [], length, get_or, ℤ, Ok, Err, Result, sym, ap, ◌∙◌, subst, arith, Bor}
 use lib.ListN.{length-map}
 use Rattle.std.proofs.lemmas.List.{get_or-map}
 use Rattle.asking.specs.declared.asked.Asked.{Asked}

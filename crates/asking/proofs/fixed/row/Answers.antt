@@ -3,18 +3,18 @@ use Rattle.std.proofs.lemmas.Result.{err_from_is_err_and}
 use Rattle.asking.proofs.Words.{at_place, enough, no_whole, whole, wrong_count}
 use Rattle.asking.proofs.fixed.row.Goals as goal
 
-pub returns-in-default : goal.returns-in-default
-returns-in-default c = wrong_count c.args.words.now (search rules) c.miscounted.ensures
+pub returns-in_default : goal.returns-in_default
+returns-in_default c = wrong_count c.args.words.now (search rules) c.miscounted.ensures
 
-pub returns-in-err-row : goal.returns-in-err-row
-returns-in-err-row c =
+pub returns-in_err-row : goal.returns-in_err-row
+returns-in_err-row c =
     let words = c.args.words.now in
-    let p = err_from_is_err_and c.from-residual.result c.from-residual.ensures.1 in
+    let p = err_from_is_err_and c.from_residual.result c.from_residual.ensures.1 in
     enough words (search rules)
-    (no_whole (at_place words 0 _ (search rules)) c.in-err-row.field-0.0 c.in-err-row.ensures (p.1 ∙ ap (λ y. Err y) p.2))
+    (no_whole (at_place words 0 _ (search rules)) c.in_err-row.field-0.0 c.in_err-row.ensures (p.1 ∙ ap (λ y. Err y) p.2))
 
 pub returns : goal.returns
 returns c =
     let words = c.args.words.now in
     enough words (search rules)
-    (whole (at_place words 0 _ (search rules)) _ c.in-ok-row.ensures refl)
+    (whole (at_place words 0 _ (search rules)) _ c.in_ok-row.ensures refl)

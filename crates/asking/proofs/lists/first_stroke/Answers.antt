@@ -1,13 +1,10 @@
-use Rattle.std.proofs.Common.{◌≡◌, ℕ, sym, refl, ◌∙◌, arith, below_more}
+use Rattle.std.proofs.Common.{sym, ◌∙◌, below_more}
+use Rattle.std.specs.Cmp.Lexicographic.{other_text, same_text}
 use Rattle.asking.proofs.Words.{at_place}
 use Rattle.asking.proofs.lists.first_stroke.Goals as goal
 
-pub returns-then-eq : goal.returns-then-eq
-returns-then-eq c = record {
-  within = omega arith;
-  before = c.loop-i.invariant;
-  found = λ h. at_place c.args.words.now c.loop-i.i _ h ∙ c.if-eq.ensures.0 refl;
-}
+pub returns-then-eq-clause-found : goal.returns-then-eq-clause-found
+returns-then-eq-clause-found c = λ h. at_place c.args.words.now c.loop-i.i _ h ∙ same_text _ _ c.if-eq.ensures
 
 pub loop-i-preserved : goal.loop-i-preserved
-loop-i-preserved c = below_more _ _ c.loop-i.invariant (λ e. let z = c.if-eq.ensures.1 (sym (at_place c.args.words.now c.loop-i.i _ c.loop-i-test.true) ∙ e) in let o : ◌≡◌ {A = ℕ} 0 1 = cc in omega arith)
+loop-i-preserved c = below_more _ _ c.loop-i.invariant (λ e. other_text _ _ c.if-eq.ensures (sym (at_place c.args.words.now c.loop-i.i _ c.loop-i-test.true) ∙ e))

@@ -6,10 +6,10 @@ pub returns-in-Open : goal.returns-in-Open
 returns-in-Open c = subst (λ k. Says k (texts c.args.words.now) c.open.result) (sym c.in-Open.is) c.open.ensures
 
 pub returns-in-PostMatrix : goal.returns-in-PostMatrix
-returns-in-PostMatrix c = subst (λ k. Says k (texts c.args.words.now) c.post-matrix.result) (sym c.in-PostMatrix.is) c.post-matrix.ensures
+returns-in-PostMatrix c = subst (λ k. Says k (texts c.args.words.now) c.post_matrix.result) (sym c.in-PostMatrix.is) c.post_matrix.ensures
 
 pub returns-in-PostPayout : goal.returns-in-PostPayout
-returns-in-PostPayout c = subst (λ k. Says k (texts c.args.words.now) c.post-payout.result) (sym c.in-PostPayout.is) c.post-payout.ensures
+returns-in-PostPayout c = subst (λ k. Says k (texts c.args.words.now) c.post_payout.result) (sym c.in-PostPayout.is) c.post_payout.ensures
 
 pub returns-in-Range : goal.returns-in-Range
 returns-in-Range c = subst (λ k. Says k (texts c.args.words.now) c.range.result) (sym c.in-Range.is) c.range.ensures
