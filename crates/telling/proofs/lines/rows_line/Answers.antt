@@ -4,13 +4,13 @@ use Rattle.telling.specs.Replies.{range_of}
 use Rattle.telling.proofs.Rows.{all_told, one_more, stopped}
 use Rattle.telling.proofs.lines.rows_line.Goals as goal
 
-pub returns-in-default : goal.returns-in-default
-returns-in-default c = stopped c.args.rows.now c.loop-row.row-index (string_bytes c.loop-row.line) c.loop-row.invariant c.row-item.result c.loop-row-test.true (c.range_of.ensures ∙ ap range_of c.row-item.is) c.in-default.is
+pub returns-in_default : goal.returns-in_default
+returns-in_default c = stopped c.args.rows.now c.loop-row.row-index (string_bytes c.loop-row.line) c.loop-row.invariant c.row-item.result c.loop-row-test.true (c.range_of.ensures ∙ ap range_of c.row-item.is) c.in_default.is
 
 pub loop-row-preserved : goal.loop-row-preserved
 loop-row-preserved c =
-    let put = chosen _ _ _ _ c.push-str.ensures.bytes (ap is_ok c.in-ok-push-str.was) in
-    let ends = c.as-str.ensures.value ∙ c.in-ok-ends.ensures in
+    let put = chosen _ _ _ _ c.push_str.ensures.bytes (ap is_ok c.in_ok-push_str.was) in
+    let ends = c.as_str.ensures.value ∙ c.in_ok-ends.ensures in
     one_more c.args.rows.now c.loop-row.row-index (string_bytes c.loop-row.line) c.loop-row.invariant c.row-item.result c.loop-row-test.true (c.range_of.ensures ∙ ap range_of c.row-item.is) c.in-Some.range c.in-Some.is (put ∙ ap (λ l. string_bytes c.loop-row.line ++ l) ends)
 
 pub returns : goal.returns

@@ -7,7 +7,7 @@ pub returns-in-UnknownCall : goal.returns-in-UnknownCall
 returns-in-UnknownCall c = worded c.format.result c.format.ensures.ok (sym (ap mistake_text c.in-UnknownCall.is))
 
 pub returns-in-NoStroke : goal.returns-in-NoStroke
-returns-in-NoStroke c = worded c.from-str.result c.from-str.ensures.ok (sym (ap mistake_text c.in-NoStroke.is))
+returns-in-NoStroke c = worded c.from_str.result c.from_str.ensures.ok (sym (ap mistake_text c.in-NoStroke.is))
 
 pub returns-in-NotANumber : goal.returns-in-NotANumber
 returns-in-NotANumber c =

@@ -4,6 +4,6 @@ use Rattle.telling.proofs.replies.told_range.Goals as goal
 
 pub returns : goal.returns
 returns c =
-    let low = figure c.args.low (search rules) c.in-ok-low.ensures in
-    let high = figure c.args.high (search rules) c.in-ok-high.ensures in
+    let low = figure c.args.low (search rules) c.in_ok-low.ensures in
+    let high = figure c.args.high (search rules) c.in_ok-high.ensures in
     worded c.format.result c.format.ensures.ok (λ i. low i ++ (codes ".." ++ high i))

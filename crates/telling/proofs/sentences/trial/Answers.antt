@@ -20,5 +20,5 @@ returns-in-Trials c = worded c.format-in-Trials.result c.format-in-Trials.ensure
 
 pub returns-in-NotAccepted : goal.returns-in-NotAccepted
 returns-in-NotAccepted c =
-    let name = c.end-name-end.ensures in
+    let name = c.end_name-end.ensures in
     worded c.format-in-NotAccepted.result c.format-in-NotAccepted.ensures.ok ((λ i. codes "no trial was accepted; worst end row " ++ (decimal c.in-NotAccepted.row ++ (codes ", " ++ name i))) ∙ sym (ap trial_text c.in-NotAccepted.is))
