@@ -1,5 +1,5 @@
 -- how rows, moves and refusals are counted
-use Rattle.std.specs.Prelude.{◌≡◌, ℕ, Bool, true, false, not, ◌&&◌, ◌||◌, ℤ, pos, ◌+ℤ◌, Ok, Err, Result}
+use Rattle.std.specs.Prelude.{◌≡◌, Bool, true, false, not, ◌&&◌, ◌||◌, ℤ, pos, ◌+ℤ◌, Ok, Err, Result}
 use Rattle.std.specs.Int.{saturate_to_bits}
 use Rattle.span.specs.declared.fault.Fault.{Fault}
 use Rattle.script.specs.declared.answer.Answer.{Answer}
