@@ -1,12 +1,13 @@
 #!/usr/bin/env python3
-"""Brings this repository's own names in specs/ and proofs/ to the library's spelling.
+"""Brings this repository's own names in specs/, proofs/ and clauses to the library's spelling.
 
-usage: python3 tools/spell.py [TOP]      run once, after the kit's port.py, at the top of a checkout (or at TOP)
+usage: python3 spell.py [TOP]      run once, after the kit's port.py, at the top of a checkout (or at TOP)
 
 Definitions, lemmas, fields, constructors and bound names are in snake case, types and records in upper camel case.
-Names of Rust source, strings, comments, inputs and outputs stay as they are. Goals' names are left to the check.
-It prints each two names that fall together, and then writes nothing; a name of a function's folder or of a field
-may stand as a word too, and is printed to be looked at.
+Rust code, strings, comments, inputs and outputs stay as they are: of a .rt file only ghost items and clauses are turned.
+Names of goals are left to the check, but where one equals a name of ours.
+Where two of our names would become one, it prints them and writes nothing. Where a new name stands somewhere already, as
+that of a function's folder or of a field may, it prints the name, to be looked at.
 """
 
 import glob
@@ -16,6 +17,8 @@ import sys
 
 TOP = sys.argv[1] if len(sys.argv) > 1 else "."
 WORD = re.compile(r"[^\s(){}\[\];,.\"⌜⌝|]+")
+QUIET = re.compile(r'"(?:\\[\s\S]|[^"\\])*"|(?<!\S)--[^\n]*|//[^\n]*')
+GHOST = re.compile(r"^\s*(?:pub\s+)?(?:ghost|requires|ensures)\b")
 DEFINED = re.compile(
     r"^\s*(?:(?:abbrev|unfoldable|pub|mutual)\s+)*(?:(?:record|data)\s+(?:pub\s+)?)?([^\s(){}\[\];,.:|=]+)\s*(?:\(|\{|:)(?!\s*goal\.)"
 )
@@ -23,8 +26,16 @@ BOUND = re.compile(r"[({]\s*((?:[^\s(){}\[\];,.:]+\s+)*[^\s(){}\[\];,.:]+)\s+:\s
 LET = re.compile(r"\blet\s+([^\s(){}\[\];,.:]+)\s*[:=]")
 # parts that the library spells otherwise today
 PARTS = [("natAbs", "unsigned_abs"), ("getD", "slice_index"), ("sumN", "nat_sum"), ("sumZ", "int_sum")]
-# names without a dash, and a type that was spelled as a word
-OTHERS = {"sumN": "nat_sum", "sumZ": "int_sum", "eqZ": "int_eq", "yes?": "is_yes", "inside?": "is_inside", "list-sound": "ListSound", "at-prepared": "at_prepared"}
+# names without a dash, a type that was spelled as a word, and a name that an import gives
+OTHERS = {
+    "sumN": "nat_sum",
+    "sumZ": "int_sum",
+    "eqZ": "int_eq",
+    "yes?": "is_yes",
+    "inside?": "is_inside",
+    "list-sound": "ListSound",
+    "at-prepared": "at_prepared",
+}
 OPERATOR = re.compile(r"^[-+*/^<≤=≡∷ᵢℤ]+$")
 
 
@@ -79,16 +90,17 @@ def spelled(name):
 
 
 def turned(text, names):
-    return WORD.sub(lambda m: names.get(m.group(0), m.group(0)), text)
+    """The text with each name turned, but for its strings and comments."""
+    out, last = [], 0
+    for m in QUIET.finditer(text):
+        out += [WORD.sub(lambda w: names.get(w.group(0), w.group(0)), text[last : m.start()]), m.group(0)]
+        last = m.end()
+    return "".join(out + [WORD.sub(lambda w: names.get(w.group(0), w.group(0)), text[last:])])
 
 
 def turned_code(text, names):
-    """Rust source: strings and comments keep their words."""
-    out, last = [], 0
-    for m in re.finditer(r'"(?:\\.|[^"\\])*"|//[^\n]*', text):
-        out += [turned(text[last : m.start()], names), m.group(0)]
-        last = m.end()
-    return "".join(out + [turned(text[last:], names)])
+    """Rust source: the lines of ghost items and clauses alone."""
+    return "".join(turned(line, names) if GHOST.match(line) else line for line in text.splitlines(keepends=True))
 
 
 def main():
