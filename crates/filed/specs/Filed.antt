@@ -1,5 +1,5 @@
 -- the worked figures of posts and sheets, in millionths
-use Rattle.std.specs.Prelude.{◌≡◌, ℕ, [], ◌∷◌, replicate, pos, Some, Ok, Err}
+use Rattle.std.specs.Prelude.{List, Option, option_map, ◌≡◌, ℕ, [], ◌∷◌, replicate, pos, Some, Ok, Err}
 use Rattle.system.specs.Faults.{at}
 use Rattle.span.specs.Questions.{first_no}
 use Rattle.system.specs.declared.fault.Fault.TheVariants.{SumTooLarge}
@@ -11,6 +11,7 @@ use Rattle.law.specs.Calls.{Given}
 use Rattle.law.specs.Calls.Given.{post}
 use Rattle.law.specs.Decides.{decides}
 use Rattle.sheet.specs.declared.fault.Fault.TheVariants.{OtherScale, Short}
+use Rattle.sheet.specs.Faults.{number}
 use Rattle.sheet.specs.Framing.{framing_questions}
 
 -- the one coefficient of a new docket, over a grid with room for every place
@@ -25,3 +26,7 @@ pub record Filed : Type 0 where
   -- 27 bytes get 30; 28 zero bytes get 31, at the first byte of S
   pub short_sheet : first_no (framing_questions 1000000 (replicate 27 0)) ≡ Some Short
   pub zero_sheet : first_no (framing_questions 1000000 (replicate 28 0)) ≡ Some (OtherScale 20)
+
+-- the number that bytes get where a framing turns them down
+abbrev pub framing_number : List ℕ → Option ℕ
+framing_number bs = option_map number (first_no (framing_questions 1000000 bs))

@@ -1,5 +1,6 @@
 // Posts that add up, and sheets that are too short.
-ghost use Rattle.filed.specs.Filed.{Filed};
+ghost use Rattle.std.specs.Prelude.{◌≡◌};
+ghost use Rattle.filed.specs.Filed.{Filed, framing_number};
 
 use sheet::Framed;
 use span::Millionths;
@@ -20,7 +21,9 @@ pub fn three_posts() -> Option<u8>
 }
 
 // The number that bytes which are no sheet get.
-pub fn framing_number(bytes: &[u8]) -> Option<u8> {
+pub fn framing_number(bytes: &[u8]) -> Option<u8>
+    ensures { result ≡ framing_number bytes.now }
+{
     match Framed::new::<Millionths>(bytes) {
         Ok(_) => None,
         Err(fault) => Some(fault.number()),
