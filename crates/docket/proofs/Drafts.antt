@@ -8,10 +8,9 @@ use Rattle.system.specs.declared.system.System.{System}
 use Rattle.system.specs.Figures.{spans}
 use Rattle.system.specs.Posts as posts
 use Rattle.system.specs.Posts.{Fresh, RangeSet, opening_questions}
-use Rattle.system.proofs.Verdicts.{no_after, no_here, no_none}
+use Rattle.span.proofs.Verdicts.{no_after, no_here, no_none}
 use Rattle.source.specs.declared.place.Place.{Place}
 use Rattle.source.specs.Faults.{spot_of}
-use Rattle.law.specs.Faults.{placed}
 use Rattle.source.specs.Meaning.{Meaning, Posting, emptied, post_questions, same, taken, told}
 use Rattle.source.specs.declared.fault.Fault as source
 use Rattle.law.specs.declared.answer.Answer.TheVariants.{Done}
@@ -82,19 +81,19 @@ module _ (S : ℕ) (M : Meaning) (h : List Given) (N : Meaning) (P : Type 0) (d 
   pub told_is : (p : Place) → told N p ≡ posted h p
   told_is p = ap (λ m. told m p) q.source_is ∙ told_posted M h p
 
-  pub outside : (p : Place) (a : ℤ) → has_place d.figures.states d.figures.settings p ≡ false → Replied S M h (post p a) (Err (fault.Figures (Outside (placed (spot_of p))))) N P d
+  pub outside : (p : Place) (a : ℤ) → has_place d.figures.states d.figures.settings p ≡ false → Replied S M h (post p a) (Err (fault.Figures (Outside (spot_of p)))) N P d
   unfolding decides
   outside p a e =
-      let no : first_no (place_questions S h p a) ≡ Some (Outside (placed (spot_of p))) = no_here _ _ _ (has p false e) in
+      let no : first_no (place_questions S h p a) ≡ Some (Outside (spot_of p)) = no_here _ _ _ (has p false e) in
       refused (post p a) _ (ap (λ o. unless fault.Figures o (verdict fault.Source (first_no (post_questions (source_of M h) p a)))) no)
 
   sum_is : (p : Place) (a : ℤ) (b : Bool) → leb (nat_abs (told N p +ℤ a)) (wholes p * S) ≡ b → within S (wholes p) (posted h p +ℤ a) ≡ b
   sum_is p a b e = subst (λ z. leb (nat_abs (z +ℤ a)) (wholes p * S) ≡ b) (told_is p) e
 
-  pub too_large : (p : Place) (a : ℤ) → has_place d.figures.states d.figures.settings p ≡ true → leb (nat_abs (told N p +ℤ a)) (wholes p * S) ≡ false → Replied S M h (post p a) (Err (fault.Figures (SumTooLarge (placed (spot_of p))))) N P d
+  pub too_large : (p : Place) (a : ℤ) → has_place d.figures.states d.figures.settings p ≡ true → leb (nat_abs (told N p +ℤ a)) (wholes p * S) ≡ false → Replied S M h (post p a) (Err (fault.Figures (SumTooLarge (spot_of p)))) N P d
   unfolding decides
   too_large p a e l =
-      let no : first_no (place_questions S h p a) ≡ Some (SumTooLarge (placed (spot_of p))) = no_after _ _ _ _ (has p true e) (no_here _ _ _ (sum_is p a false l)) in
+      let no : first_no (place_questions S h p a) ≡ Some (SumTooLarge (spot_of p)) = no_after _ _ _ _ (has p true e) (no_here _ _ _ (sum_is p a false l)) in
       refused (post p a) _ (ap (λ o. unless fault.Figures o (verdict fault.Source (first_no (post_questions (source_of M h) p a)))) no)
 
   passes : (p : Place) (a : ℤ) → has_place d.figures.states d.figures.settings p ≡ true → leb (nat_abs (told N p +ℤ a)) (wholes p * S) ≡ true → first_no (place_questions S h p a) ≡ None

@@ -9,7 +9,7 @@ use Rattle.system.specs.declared.system.System.{System}
 use Rattle.system.specs.Figures.{matrix_index, payout_index, spans}
 use Rattle.system.specs.Posts.{Beyond, With}
 use Rattle.system.specs.Posts.Beyond.{in_matrix, in_payouts}
-use Rattle.system.proofs.Verdicts.{no_after}
+use Rattle.span.proofs.Verdicts.{no_after}
 use Rattle.prepare.specs.declared.fault.Fault as prepare
 use Rattle.prepare.specs.declared.fault.Fault.TheVariants.{IterationTooLarge, OtherScale, ResidualTooLarge}
 use Rattle.prepare.specs.declared.prepared.Prepared.{Prepared}

@@ -5,7 +5,7 @@ use Rattle.span.specs.declared.span.Span.{Span}
 use Rattle.span.specs.Intervals.{Interval}
 use Rattle.enclosure.specs.declared.fault.Fault.{Fault}
 use Rattle.enclosure.specs.Boxed.{BoxedBy}
-use Rattle.system.proofs.Verdicts.{no_none, no_here, no_after}
+use Rattle.span.proofs.Verdicts.{no_none, no_here, no_after}
 
 pub append_none : {F : Type 0} (a b : List (Question F)) → first_no a ≡ None → first_no (a ++ b) ≡ first_no b
 unfolding first_no

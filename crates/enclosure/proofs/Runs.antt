@@ -10,7 +10,7 @@ use Rattle.method.specs.Method.{Game, Proposal, size, residual, greatest_of, res
 use Rattle.method.specs.Trials.{boxes, accepts, grown, is_inside, worst}
 use Rattle.method.proofs.Halves.{first_accepted}
 use Rattle.system.specs.Figures.{spans}
-use Rattle.system.proofs.Verdicts.{no_none, no_here, no_after}
+use Rattle.span.proofs.Verdicts.{no_none, no_here, no_after}
 use Rattle.prepare.specs.declared.prepared.Prepared.{Prepared}
 use Rattle.prepare.specs.Proposals.{PreparedFor}
 use Rattle.enclosure.specs.declared.enclosure.Enclosure.{Enclosure}

@@ -11,7 +11,7 @@ use Rattle.method.specs.Trials.{is_inside, accepts, worst, worse, low_end, high_
 use Rattle.method.specs.Trials as trials
 use Rattle.method.proofs.Soundness.{soundness}
 use Rattle.system.specs.Figures.{spans}
-use Rattle.system.proofs.Verdicts.{no_none, no_here, no_after}
+use Rattle.span.proofs.Verdicts.{no_none, no_here, no_after}
 use Rattle.prepare.specs.declared.prepared.Prepared.{Prepared}
 use Rattle.prepare.specs.Proposals.{PreparedFor}
 use Rattle.enclosure.specs.declared.enclosure.Enclosure.{Enclosure}

@@ -2,8 +2,8 @@
 use Rattle.std.specs.Prelude.{ℕ}
 use Rattle.span.specs.declared.fault.Layer.{Layer}
 use Rattle.span.specs.declared.fault.Layer.TheVariants.{Docket}
-use Rattle.system.specs.declared.fault.Place.{Place}
-use Rattle.system.specs.Faults.{at}
+use Rattle.span.specs.declared.fault.Spot.{Spot}
+use Rattle.span.specs.Faults.{at}
 use Rattle.enclosure.specs.declared.fault.End.{End}
 use Rattle.enclosure.specs.declared.fault.End.TheVariants.{Low, High}
 use Rattle.enclosure.specs.declared.fault.Fault.{Fault}
@@ -27,7 +27,7 @@ abbrev pub side : End → ℕ
 side Low = 0
 side High = 1
 
-abbrev pub place : Fault → Place
+abbrev pub place : Fault → Spot
 place (OtherScale S) = at 0 0 0
 place (Count given) = at 0 0 0
 place (BoxReversed i) = at 0 i 0

@@ -2,8 +2,7 @@
 ghost use Rattle.std.specs.Prelude.{◌≡◌};
 ghost use Rattle.enclosure.specs.Faults.{number, layer, place};
 
-use span::Layer;
-use system::Place;
+use span::{Layer, Spot};
 
 // An end of a row of a box.
 #[derive(Clone, Copy, PartialEq, Eq, Debug)]
@@ -56,34 +55,23 @@ impl Fault {
     }
 
     // A worst end has part 0 for low and 1 for high.
-    pub fn place(&self) -> Place
+    pub fn place(&self) -> Spot
         ensures { result ≡ place self.now }
     {
         match *self {
-            Fault::BoxReversed { row } | Fault::BoxTooLarge { row } | Fault::NoRow { row } =>
-                Place {
-                    part: 0,
-                    row,
-                    column: 0,
-                },
-            Fault::NotAccepted { row, end: End::Low } => Place {
-                part: 0,
-                row,
-                column: 0,
-            },
+            Fault::BoxReversed { row }
+            | Fault::BoxTooLarge { row }
+            | Fault::NoRow { row }
+            | Fault::NotAccepted { row, end: End::Low } => Spot::of_row(row),
             Fault::NotAccepted {
                 row,
                 end: End::High,
-            } => Place {
+            } => Spot {
                 part: 1,
                 row,
                 column: 0,
             },
-            _ => Place {
-                part: 0,
-                row: 0,
-                column: 0,
-            },
+            _ => Spot::default(),
         }
     }
 }

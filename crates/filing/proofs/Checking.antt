@@ -2,7 +2,7 @@
 use Rattle.std.proofs.Common.{◌≡◌, ℕ, ◌*◌, List, Some, None, Ok, Err, Result, sym, refl, ap, ◌∙◌, subst}
 use Rattle.std.proofs.lemmas.Bool.{and_from}
 use Rattle.span.specs.Questions.{first_no}
-use Rattle.system.proofs.Verdicts.{no_after, no_none}
+use Rattle.span.proofs.Verdicts.{no_after, no_none}
 use Rattle.prepare.proofs.Firsts.{first_yes}
 use Rattle.source.specs.Meaning.{Meaning}
 use Rattle.law.specs.declared.answer.Answer.TheVariants.{Done}

@@ -21,7 +21,6 @@ use Rattle.law.specs.declared.fault.Fault.{Fault}
 use Rattle.law.specs.declared.fault.Fault.TheVariants as fault
 use Rattle.law.specs.Calls.{Given}
 use Rattle.law.specs.Calls.Given.{opening, post, range, propose, attempt, run, narrow}
-use Rattle.law.specs.Faults.{placed}
 use Rattle.law.specs.History.{Basis, Offer, game_of, holds, offered, posted, range_held, settings_of, source_of, stands, states_of}
 
 -- is the place one of a game of n states and k settings?
@@ -36,8 +35,8 @@ wholes (Payout v i) = 100
 
 abbrev pub place_questions : ℕ → List Given → Place → ℤ → List (Question system.Fault)
 place_questions S h p a =
-    ask (has_place (states_of h) (settings_of h) p) (Outside (placed (spot_of p)))
-    ∷ ask (within S (wholes p) (posted h p +ℤ a)) (SumTooLarge (placed (spot_of p)))
+    ask (has_place (states_of h) (settings_of h) p) (Outside (spot_of p))
+    ∷ ask (within S (wholes p) (posted h p +ℤ a)) (SumTooLarge (spot_of p))
     ∷ []
 
 abbrev pub range_questions : ℕ → List Given → ℕ → ℤ → ℤ → List (Question system.Fault)

@@ -4,7 +4,6 @@ use Rattle.span.specs.declared.fault.Layer.{Layer}
 use Rattle.span.specs.declared.fault.Layer.TheVariants as layers
 use Rattle.span.specs.declared.fault.Spot.{Spot}
 use Rattle.span.specs.Faults.{at}
-use Rattle.system.specs.declared.fault.Place.{Place}
 use Rattle.system.specs.Faults as system
 use Rattle.prepare.specs.Faults as prepare
 use Rattle.enclosure.specs.Faults as enclosure
@@ -28,18 +27,10 @@ layer (Source f) = layers.Source
 layer NoProposal = layers.Docket
 layer NotHeld = layers.Docket
 
--- a place of the figures, the proposal or a trial as every refusal names it
-abbrev pub spot : Place → Spot
-spot p = at p.part p.row p.column
-
--- and a spot as the figures' refusals name it
-abbrev pub placed : Spot → Place
-placed s = system.at s.part s.row s.column
-
 abbrev pub place : Fault → Spot
-place (Figures f) = spot (system.place f)
-place (Proposal f) = spot (prepare.place f)
-place (Trial f) = spot (enclosure.place f)
+place (Figures f) = system.place f
+place (Proposal f) = prepare.place f
+place (Trial f) = enclosure.place f
 place (Source f) = source.place f
 place NoProposal = at 0 0 0
 place NotHeld = at 0 0 0

@@ -1,9 +1,8 @@
 // What a call of a docket is turned down with.
 ghost use Rattle.std.specs.Prelude.{◌≡◌};
-ghost use Rattle.law.specs.Faults.{number, layer, place, spot};
+ghost use Rattle.law.specs.Faults.{number, layer, place};
 
 use span::{Layer, Spot};
-use system::Place;
 
 // Whose question got a no, with that fault as it came.
 #[derive(Clone, Copy)]
@@ -50,26 +49,11 @@ impl Fault {
         ensures { result ≡ place self.now }
     {
         match self {
-            Fault::Figures(fault) => spot(fault.place()),
-            Fault::Proposal(fault) => spot(fault.place()),
-            Fault::Trial(fault) => spot(fault.place()),
+            Fault::Figures(fault) => fault.place(),
+            Fault::Proposal(fault) => fault.place(),
+            Fault::Trial(fault) => fault.place(),
             Fault::Source(fault) => fault.place(),
-            _ => Spot {
-                part: 0,
-                row: 0,
-                column: 0,
-            },
+            _ => Spot::default(),
         }
-    }
-}
-
-// A place of the figures, the proposal or a trial as every refusal names it.
-fn spot(place: Place) -> Spot
-    ensures { result ≡ spot place }
-{
-    Spot {
-        part: place.part,
-        row: place.row,
-        column: place.column,
     }
 }

@@ -3,7 +3,7 @@ use Rattle.std.proofs.Common.{◌≡◌, ℕ, ◌*◌, true, false, ◌&&◌, eq
 use Rattle.std.proofs.lemmas.Bool.{eq-eqb, ne_eqb, and_left, and_right, and_from}
 use Rattle.span.specs.Questions.{first_no}
 use Rattle.system.specs.declared.system.System.{System}
-use Rattle.system.proofs.Verdicts.{no_here, no_after}
+use Rattle.span.proofs.Verdicts.{no_here, no_after}
 use Rattle.prepare.specs.declared.fault.Fault.{Fault}
 use Rattle.prepare.specs.declared.fault.Fault.TheVariants.{Count}
 use Rattle.prepare.specs.Numbers.{number_questions}

@@ -8,7 +8,7 @@ use Rattle.span.specs.Questions.{Question, ask, first_no}
 use Rattle.method.specs.Method as method
 use Rattle.system.specs.declared.system.System.{System}
 use Rattle.system.specs.Figures.{Small, Narrow, spans}
-use Rattle.system.proofs.Verdicts.{no_after}
+use Rattle.span.proofs.Verdicts.{no_after}
 use Rattle.prepare.specs.declared.fault.Fault.{Fault}
 use Rattle.prepare.specs.declared.fault.Fault.TheVariants.{Count}
 use Rattle.prepare.specs.declared.prepared.Prepared.{Prepared}

@@ -2,8 +2,8 @@
 use Rattle.std.specs.Prelude.{ℕ}
 use Rattle.span.specs.declared.fault.Layer.{Layer}
 use Rattle.span.specs.declared.fault.Layer.TheVariants.{Docket}
-use Rattle.system.specs.declared.fault.Place.{Place}
-use Rattle.system.specs.Faults.{at}
+use Rattle.span.specs.declared.fault.Spot.{Spot}
+use Rattle.span.specs.Faults.{at}
 use Rattle.prepare.specs.declared.fault.Fault.{Fault}
 use Rattle.prepare.specs.declared.fault.Fault.TheVariants.{OtherScale, Count, TableTooLarge, GuessTooLarge, ResidualTooLarge, IterationTooLarge}
 
@@ -18,7 +18,7 @@ number (IterationTooLarge i j) = 9
 abbrev pub layer : Fault → Layer
 layer fault = Docket
 
-abbrev pub place : Fault → Place
+abbrev pub place : Fault → Spot
 place (OtherScale S) = at 0 0 0
 place (Count r g) = at 0 0 0
 place (TableTooLarge i j) = at 0 i j

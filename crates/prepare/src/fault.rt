@@ -2,8 +2,7 @@
 ghost use Rattle.std.specs.Prelude.{◌≡◌};
 ghost use Rattle.prepare.specs.Faults.{number, layer, place};
 
-use span::Layer;
-use system::Place;
+use span::{Layer, Spot};
 
 #[derive(Clone, Copy, PartialEq, Eq, Debug)]
 pub enum Fault {
@@ -43,31 +42,23 @@ impl Fault {
     }
 
     // A guess has column 12.
-    pub fn place(&self) -> Place
+    pub fn place(&self) -> Spot
         ensures { result ≡ place self.now }
     {
         match *self {
-            Fault::OtherScale { .. } | Fault::Count { .. } => Place {
-                part: 0,
-                row: 0,
-                column: 0,
-            },
+            Fault::OtherScale { .. } | Fault::Count { .. } => Spot::default(),
             Fault::TableTooLarge { row, column } | Fault::IterationTooLarge { row, column } =>
-                Place {
+                Spot {
                     part: 0,
                     row,
                     column,
                 },
-            Fault::GuessTooLarge { row } => Place {
+            Fault::GuessTooLarge { row } => Spot {
                 part: 0,
                 row,
                 column: 12,
             },
-            Fault::ResidualTooLarge { row } => Place {
-                part: 0,
-                row,
-                column: 0,
-            },
+            Fault::ResidualTooLarge { row } => Spot::of_row(row),
         }
     }
 }

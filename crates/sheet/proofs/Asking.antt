@@ -2,7 +2,7 @@
 use Rattle.std.proofs.Common.{◌≡◌, ℕ, ◌-◌, ◌<◌, ◌≤◌, Bool, true, List, ◌∷◌, ◌++◌, length, Some, None, Ok, Err, Result, refl, ◌∙◌}
 use Rattle.std.proofs.lemmas.Bool.{eq-eqb, le-leb, lt-leb, ne_eqb}
 use Rattle.span.specs.Questions.{Question, ask, first_no}
-use Rattle.system.proofs.Verdicts.{no_after, no_here}
+use Rattle.span.proofs.Verdicts.{no_after, no_here}
 use Rattle.prepare.proofs.Firsts.{earlier, later}
 use Rattle.sheet.specs.declared.fault.Fault.{Fault}
 use Rattle.sheet.specs.declared.fault.Fault.TheVariants.{OtherScale, Short}

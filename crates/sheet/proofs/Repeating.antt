@@ -4,7 +4,7 @@ use lib.IntN.{+ℤ_idl}
 use lib.Signed.{le_z}
 use Rattle.std.proofs.lemmas.Bool.{and_from, cases_Bool, eq-eqb, le-leb, lt-ltb}
 use Rattle.span.specs.Questions.{Question, ask, ends_within, first_no, within}
-use Rattle.system.proofs.Verdicts.{no_after, no_none}
+use Rattle.span.proofs.Verdicts.{no_after, no_none}
 use Rattle.prepare.specs.declared.fault.Fault as prepare
 use Rattle.prepare.specs.declared.fault.Fault.TheVariants.{Count}
 use Rattle.prepare.specs.Proposals.{guess_questions, iteration_questions, offer, residual_questions, table_questions}

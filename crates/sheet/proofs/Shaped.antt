@@ -2,7 +2,7 @@
 use Rattle.std.proofs.Common.{◌≡◌, ℕ, ◌+◌, ◌-◌, ◌*◌, ◌<◌, ◌≤◌, leb, List, ◌∷◌, length, get_or, None}
 use Rattle.std.proofs.lemmas.Bool.{and_from, and_parts, eq-eqb, eqb-true, le-leb, leb-true}
 use Rattle.span.specs.Questions.{first_no}
-use Rattle.system.proofs.Verdicts.{no_after}
+use Rattle.span.proofs.Verdicts.{no_after}
 use Rattle.enclosure.proofs.Asked.{each_yes}
 use Rattle.prepare.proofs.Firsts.{all_yes, first_yes}
 use Rattle.law.proofs.Nones.{none_after, none_before, none_later}

@@ -7,4 +7,3 @@ pub mod Places
 pub mod Posts
 pub mod Runs
 pub mod Sums
-pub mod Verdicts

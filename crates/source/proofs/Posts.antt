@@ -12,7 +12,7 @@ use Rattle.source.specs.Lists.{Kept, listed, places_of, sum_of}
 use Rattle.source.specs.Meaning.{Kind, Meaning, count, in_range, kind_of, limit, post_questions}
 use Rattle.source.specs.Tallies.{Added, NoneAt, Slot}
 use Rattle.source.proofs.Sums.{added_kept, no_room, slot_room, slot_sum}
-use Rattle.source.proofs.Verdicts.{no_after, no_here, no_none}
+use Rattle.span.proofs.Verdicts.{no_after, no_here, no_none}
 
 -- the no that a tally's answer stands for
 abbrev pub no_of : Place → Result (Unit {0}) Refusal → Option Fault

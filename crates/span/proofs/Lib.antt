@@ -1,3 +1,4 @@
 pub mod Integers
 pub mod Floors
 pub mod Contains
+pub mod Verdicts

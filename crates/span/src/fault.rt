@@ -1,7 +1,7 @@
 // What a call is turned down with. A case says which question got a no, with the values
 // concerned; its number and its layer can be asked of it.
 ghost use Rattle.std.specs.Prelude.{◌≡◌};
-ghost use Rattle.span.specs.Faults.{number, layer};
+ghost use Rattle.span.specs.Faults.{at, number, layer};
 
 // The layer whose question failed.
 #[derive(Clone, Copy, PartialEq, Eq, Debug)]
@@ -14,11 +14,23 @@ pub enum Layer {
 
 // The part, row and column that a refusal concerns; a payout or a guess has column 12, figures
 // not concerned are 0.
-#[derive(Clone, Copy, PartialEq, Eq, Debug)]
+#[derive(Clone, Copy, PartialEq, Eq, Debug, Default)]
 pub struct Spot {
     pub part: usize,
     pub row: usize,
     pub column: usize,
+}
+
+impl Spot {
+    // A row alone.
+    pub fn of_row(row: usize) -> Spot
+        ensures { result ≡ at 0 row 0 }
+    {
+        Spot {
+            row,
+            ..Spot::default()
+        }
+    }
 }
 
 // What was worked out when the result did not fit.

@@ -2,9 +2,12 @@
 #![tactic(auto)]
 
 mod fault;
+mod names;
 mod scale;
 mod span;
+mod sum;
 
 pub use fault::{Fault, Layer, Operation, Spot};
 pub use scale::{Binary, Millionths, Scale};
 pub use span::Span;
+pub use sum::sum_within;

@@ -1,5 +1,5 @@
 // Scales: how many units make one whole, and how a figure is brought back by them.
-ghost use Rattle.std.specs.Prelude.{◌≡◌, ℕ, ◌≤◌, pos};
+ghost use Rattle.std.specs.Prelude.{◌≡◌, ℕ, ◌≤◌, pos, ◌<ℤ◌};
 ghost use Rattle.span.specs.Rounding.{floor, ceiling};
 ghost use Rattle.std.proofs.Common.{rules};
 
@@ -13,16 +13,36 @@ pub trait Scale {
     fn units() -> i64
         ensures { result ≡ pos unit };
 
-    // The greatest whole number not above v / S, and the least not below it.
+    // The greatest whole number not above v / S, and the least not below it: by division, where
+    // the scale knows no shorter way.
     fn bring_back(v: i64) -> (i64, i64)
-        ensures { (result.0 ≡ floor unit v) × (result.1 ≡ ceiling unit v) };
+        ensures { (result.0 ≡ floor unit v) × (result.1 ≡ ceiling unit v) }
+    {
+        let s = Self::units();
+        (below(v, s), above(v, s))
+    }
 
     ghost least: { 2 ≤ unit };
 
     ghost most: { unit ≤ 1048576 };
 }
 
-// Millionths of a bet, brought back by division.
+fn below(v: i64, s: i64) -> i64
+    requires { pos 1 <ℤ s }
+    ensures { (S : ℕ) → s ≡ pos S → result ≡ floor S v }
+{
+    v.div_euclid(s)
+}
+
+// Division drops the remainder, which is upward where v is not above 0.
+fn above(v: i64, s: i64) -> i64
+    requires { pos 1 <ℤ s }
+    ensures { (S : ℕ) → s ≡ pos S → result ≡ ceiling S v }
+{
+    if v > 0 { (v - 1) / s + 1 } else { v / s }
+}
+
+// Millionths of a bet.
 #[derive(Clone, Copy, Debug)]
 pub struct Millionths;
 
@@ -37,27 +57,6 @@ impl Scale for Millionths {
 
     fn units() -> i64 {
         Self::S
-    }
-
-    fn bring_back(v: i64) -> (i64, i64) {
-        (millionths_below(v), millionths_above(v))
-    }
-}
-
-fn millionths_below(v: i64) -> i64
-    ensures { result ≡ floor 1000000 v }
-{
-    v.div_euclid(Millionths::S)
-}
-
-// Division drops the remainder, which is upward where v is not above 0.
-fn millionths_above(v: i64) -> i64
-    ensures { result ≡ ceiling 1000000 v }
-{
-    if v > 0 {
-        (v - 1) / Millionths::S + 1
-    } else {
-        v / Millionths::S
     }
 }
 

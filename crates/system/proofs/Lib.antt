@@ -1,3 +1,3 @@
 pub mod Ranges
-pub mod Verdicts
+pub mod Sums
 pub mod Zeros

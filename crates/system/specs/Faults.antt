@@ -4,7 +4,8 @@ use Rattle.span.specs.declared.fault.Layer.{Layer}
 use Rattle.span.specs.declared.fault.Layer.TheVariants.{Docket}
 use Rattle.system.specs.declared.fault.Fault.{Fault}
 use Rattle.system.specs.declared.fault.Fault.TheVariants.{Outside, SumTooLarge, NoSetting, RangeReversed, RangeTooWide, Size}
-use Rattle.system.specs.declared.fault.Place.{Place}
+use Rattle.span.specs.declared.fault.Spot.{Spot}
+use Rattle.span.specs.Faults.{at}
 
 abbrev pub number : Fault → ℕ
 number (Outside p) = 1
@@ -17,10 +18,7 @@ number (Size n k) = 5
 abbrev pub layer : Fault → Layer
 layer fault = Docket
 
-abbrev pub at : ℕ → ℕ → ℕ → Place
-at v i j = record { part = v; row = i; column = j }
-
-abbrev pub place : Fault → Place
+abbrev pub place : Fault → Spot
 place (Outside p) = p
 place (SumTooLarge p) = p
 place (NoSetting v) = at v 0 0

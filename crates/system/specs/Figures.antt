@@ -4,8 +4,8 @@ use Rattle.span.specs.declared.span.Span.{Span}
 use Rattle.span.specs.Intervals.{Interval, point}
 use Rattle.span.specs.Spans.{ends}
 use Rattle.method.specs.Method.{Game, size}
-use Rattle.system.specs.declared.fault.Place.{Place}
-use Rattle.system.specs.Faults.{at}
+use Rattle.span.specs.declared.fault.Spot.{Spot}
+use Rattle.span.specs.Faults.{at}
 
 -- the spans of a list by their place in it
 abbrev pub spans : List Span → ℕ → Interval
@@ -37,10 +37,10 @@ pub record FirstBeyond (w : ℕ) (xs : List ℤ) (i : ℕ) : Type 0 where
   pub before : (j : ℕ) → j < i → unsigned_abs (slice_index_or xs j (pos 0)) ≤ w
 
 -- the place of a coefficient and of a payout by its index; a payout has column 12
-abbrev pub matrix_spot : ℕ → Place
+abbrev pub matrix_spot : ℕ → Spot
 matrix_spot t = at (t / 144) ((t / 12) % 12) (t % 12)
 
-abbrev pub payout_spot : ℕ → Place
+abbrev pub payout_spot : ℕ → Spot
 payout_spot t = at (t / 12) (t % 12) 12
 
 -- both ends of each span are within w

@@ -5,7 +5,7 @@ use Rattle.span.specs.Intervals.{point}
 use Rattle.system.specs.declared.fault.Fault.{Fault}
 use Rattle.system.specs.declared.fault.Fault.TheVariants.{Outside, SumTooLarge, NoSetting, RangeReversed, RangeTooWide, Size}
 use Rattle.system.specs.declared.system.System.{System}
-use Rattle.system.specs.Faults.{at}
+use Rattle.span.specs.Faults.{at}
 use Rattle.system.specs.Figures.{FirstBeyond, Small, matrix_index, matrix_spot, payout_index, payout_spot, spans}
 
 -- ---- opening

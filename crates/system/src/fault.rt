@@ -2,22 +2,14 @@
 ghost use Rattle.std.specs.Prelude.{◌≡◌};
 ghost use Rattle.system.specs.Faults.{number, layer, place};
 
-use span::Layer;
-
-// The part, row and column concerned; a payout has column 12, figures not concerned are 0.
-#[derive(Clone, Copy, PartialEq, Eq, Debug)]
-pub struct Place {
-    pub part: usize,
-    pub row: usize,
-    pub column: usize,
-}
+use span::{Layer, Spot};
 
 #[derive(Clone, Copy, PartialEq, Eq, Debug)]
 pub enum Fault {
     // 1: the part is above k, or the row or the column is not below n
-    Outside(Place),
+    Outside(Spot),
     // 2: the new sum is not within one whole (matrix) or 100 wholes (payout)
-    SumTooLarge(Place),
+    SumTooLarge(Spot),
     // 1: the part is not a setting's, 1 to k
     NoSetting(usize),
     // 3: the low end is above the high end
@@ -49,22 +41,17 @@ impl Fault {
         Layer::Docket
     }
 
-    pub fn place(&self) -> Place
+    pub fn place(&self) -> Spot
         ensures { result ≡ place self.now }
     {
         match *self {
-            Fault::Outside(place) | Fault::SumTooLarge(place) => place,
+            Fault::Outside(spot) | Fault::SumTooLarge(spot) => spot,
             Fault::NoSetting(part) | Fault::RangeReversed(part) | Fault::RangeTooWide(part) =>
-                Place {
+                Spot {
                     part,
-                    row: 0,
-                    column: 0,
+                    ..Spot::default()
                 },
-            Fault::Size { .. } => Place {
-                part: 0,
-                row: 0,
-                column: 0,
-            },
+            Fault::Size { .. } => Spot::default(),
         }
     }
 }

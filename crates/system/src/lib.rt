@@ -4,13 +4,13 @@
 mod fault;
 mod system;
 
-pub use fault::{Fault, Place};
+pub use fault::Fault;
 pub use system::System;
 
 #[cfg(test)]
 mod tests {
     use super::*;
-    use span::{Binary, Millionths, Scale};
+    use span::{Binary, Millionths, Scale, Spot};
     use std::test::Fail;
 
     #[test]
@@ -18,7 +18,7 @@ mod tests {
         let mut system = System::new::<Millionths>(3, 2)?;
         system.post_matrix(2, 1, 0, 600_000)?;
         system.post_matrix(2, 1, 0, 400_000)?;
-        let place = Place {
+        let place = Spot {
             part: 2,
             row: 1,
             column: 0,
@@ -36,7 +36,7 @@ mod tests {
         );
         assert_eq!(rt;
             system.post_matrix(2, 3, 0, 1),
-            Err(Fault::Outside(Place {
+            Err(Fault::Outside(Spot {
                 part: 2,
                 row: 3,
                 column: 0,

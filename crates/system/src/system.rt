@@ -1,5 +1,5 @@
 // The figures of one game, in units of its scale.
-ghost use Rattle.std.specs.Prelude.{◌≡◌, ◌*◌, ◌≤◌};
+ghost use Rattle.std.specs.Prelude.{◌≡◌, ◌*◌, ◌≤◌, length};
 ghost use Rattle.system.specs.Figures.{Small, Narrow};
 
 mod posts;
@@ -51,21 +51,24 @@ impl System {
 
     // The coefficients, at (part * 12 + row) * 12 + column.
     pub fn matrix(&self) -> &[i32]
-        ensures { result.now ≡ self.now.matrix }
+        ensures value { result.now ≡ self.now.matrix }
+        ensures long { length result.now ≡ 1296 }
     {
         &self.matrix
     }
 
     // The payouts, at part * 12 + row.
     pub fn payouts(&self) -> &[i32]
-        ensures { result.now ≡ self.now.payouts }
+        ensures value { result.now ≡ self.now.payouts }
+        ensures long { length result.now ≡ 108 }
     {
         &self.payouts
     }
 
     // The settings' ranges, by part.
     pub fn ranges(&self) -> &[Span]
-        ensures { result.now ≡ self.now.ranges }
+        ensures value { result.now ≡ self.now.ranges }
+        ensures long { length result.now ≡ 9 }
     {
         &self.ranges
     }

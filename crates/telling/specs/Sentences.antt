@@ -14,7 +14,6 @@ use Rattle.source.specs.declared.fault.Fault.TheVariants as source
 use Rattle.source.specs.Faults.{spot_of}
 use Rattle.law.specs.declared.fault.Fault.{Fault}
 use Rattle.law.specs.declared.fault.Fault.TheVariants.{Figures, Proposal, Trial, Source, NoProposal, NotHeld}
-use Rattle.law.specs.Faults.{spot}
 
 abbrev pub spot_text : Spot → List ℕ
 spot_text p = codes "part " ++ (decimal p.part ++ (codes ", row " ++ (decimal p.row ++ (codes ", column " ++ decimal p.column))))
@@ -24,8 +23,8 @@ end_text Low = codes "low"
 end_text High = codes "high"
 
 abbrev pub figures_text : SystemFault → List ℕ
-figures_text (system.Outside p) = codes "the game has no place " ++ spot_text (spot p)
-figures_text (system.SumTooLarge p) = codes "the coefficient at " ++ (spot_text (spot p) ++ codes " would pass one whole, or 100 wholes for a payout")
+figures_text (system.Outside p) = codes "the game has no place " ++ spot_text p
+figures_text (system.SumTooLarge p) = codes "the coefficient at " ++ (spot_text p ++ codes " would pass one whole, or 100 wholes for a payout")
 figures_text (system.NoSetting v) = codes "the game has no setting " ++ decimal v
 figures_text (system.RangeReversed v) = codes "the range of setting " ++ (decimal v ++ codes " has its low end above its high end")
 figures_text (system.RangeTooWide v) = codes "the range of setting " ++ (decimal v ++ codes " has an end that is not within one whole")

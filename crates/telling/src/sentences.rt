@@ -1,13 +1,11 @@
 // Why a call was turned down: one sentence for each refusal, with its values and its place.
 ghost use Rattle.std.specs.Prelude.{◌≡◌, IfOk, string_bytes};
-ghost use Rattle.law.specs.Faults.{spot};
 ghost use Rattle.telling.specs.Sentences.{end_text, figures_text, proposal_text, source_text, spot_text, trial_text, why_text};
 
 use enclosure::End;
 use law::Fault;
 use span::Spot;
 use std::alloc::{AllocError, Global};
-use system::Place;
 
 pub(crate) fn why(heap: Global, fault: &Fault) -> Result<String, AllocError>
     ensures { IfOk result (λ s. string_bytes s ≡ why_text fault.now) }
@@ -27,11 +25,11 @@ fn figures(heap: Global, fault: &system::Fault) -> Result<String, AllocError>
 {
     match fault {
         system::Fault::Outside(place) => {
-            let place = spot_words(heap, &spot(*place))?;
+            let place = spot_words(heap, place)?;
             format!(in heap; "the game has no place {place}")
         }
         system::Fault::SumTooLarge(place) => {
-            let place = spot_words(heap, &spot(*place))?;
+            let place = spot_words(heap, place)?;
             format!(in heap;
                 "the coefficient at {place} would pass one whole, or 100 wholes for a payout"
             )
@@ -132,17 +130,6 @@ fn spot_words(heap: Global, spot: &Spot) -> Result<String, AllocError>
     let row = spot.row;
     let column = spot.column;
     format!(in heap; "part {part}, row {row}, column {column}")
-}
-
-// A place of the figures as every refusal names it.
-fn spot(place: Place) -> Spot
-    ensures { result ≡ spot place }
-{
-    Spot {
-        part: place.part,
-        row: place.row,
-        column: place.column,
-    }
 }
 
 fn end_name(end: End) -> &'static str

@@ -5,8 +5,6 @@ ghost use Rattle.source.specs.Meaning.{Meaning};
 ghost use Rattle.law.specs.Calls.{Given};
 ghost use Rattle.law.specs.Calls.Given.{opening, post, range};
 ghost use Rattle.law.specs.Decides.{wholes};
-ghost use Rattle.law.specs.Faults.{placed};
-ghost use Rattle.source.specs.Faults.{spot_of};
 ghost use Rattle.docket.specs.Reflects.{Reflects, Replied, Unmoved};
 
 use super::Docket;
@@ -43,10 +41,10 @@ impl<C: Source, T: Scale> Docket<C, T> {
         ensures replied { (M : Meaning) (h : List Given) → Reflects T.Scale.unit M h (C.Source.meaning self.old.source) (C.Source.sound self.old.source) self.old.desk → Replied T.Scale.unit M h (post place amount) result (C.Source.meaning self.new.source) (C.Source.sound self.new.source) self.new.desk }
     {
         if !has_place(&self.desk.figures, place) {
-            return Err(Fault::Figures(system::Fault::Outside(seat(place))));
+            return Err(Fault::Figures(system::Fault::Outside(place.spot())));
         }
         if !sum_within::<T>(place, coefficient(&self.source, place), amount) {
-            return Err(Fault::Figures(system::Fault::SumTooLarge(seat(place))));
+            return Err(Fault::Figures(system::Fault::SumTooLarge(place.spot())));
         }
         match self.source.post(place, amount) {
             Ok(()) => {
@@ -73,18 +71,6 @@ impl<C: Source, T: Scale> Docket<C, T> {
             }
             Err(fault) => Err(Fault::Figures(fault)),
         }
-    }
-}
-
-// The place as the figures' refusals name it.
-fn seat(place: Place) -> system::Place
-    ensures { result ≡ placed (spot_of place) }
-{
-    let spot = place.spot();
-    system::Place {
-        part: spot.part,
-        row: spot.row,
-        column: spot.column,
     }
 }
 

@@ -1,5 +1,5 @@
 // What can be done with spans. Every result is exact, or the operation is turned down.
-ghost use Rattle.std.specs.Prelude.{◌≡◌, ◌*ℤ◌, ◌≤ℤ◌, ◌<ℤ◌, IfOk, Ok, Err, FitsSigned};
+ghost use Rattle.std.specs.Prelude.{◌≡◌, ◌*ℤ◌, ◌≤ℤ◌, ◌<ℤ◌, IfOk, Ok, Err, FitsSigned, pos};
 ghost use Rattle.std.specs.Int.{w64};
 ghost use Rattle.span.specs.declared.fault.Fault.TheVariants.{LowAboveHigh, TooLarge};
 ghost use Rattle.span.specs.declared.fault.Operation.TheVariants.{Sum, Difference, Product};
@@ -73,6 +73,15 @@ impl Span {
     {
         let (low, high) = outward::<T>(self);
         Span { low, high }
+    }
+}
+
+// The one figure 0.
+impl Default for Span {
+    ghost is_default = { λ s. ends s ≡ point (pos 0) };
+
+    fn default() -> Span {
+        Span::point(0)
     }
 }
 

@@ -5,8 +5,8 @@ ghost use Rattle.system.specs.Figures.{FirstBeyond, Small, matrix_index, matrix_
 ghost use Rattle.system.specs.Posts.{Decided, Filled, MatrixAdded, Opened, PayoutAdded, RangeSet, has_coefficient, has_payout, has_setting, is_size, matrix_questions, payout_questions, range_questions};
 
 use super::System;
-use crate::fault::{Fault, Place};
-use span::{Scale, Span};
+use crate::fault::Fault;
+use span::{Scale, Span, Spot, sum_within};
 
 impl System {
     // n states and k settings, nothing posted, every setting 0..0.
@@ -20,8 +20,8 @@ impl System {
             units: T::units() as u32,
             states,
             settings,
-            matrix: no_coefficients(),
-            payouts: no_payouts(),
+            matrix: zeros(),
+            payouts: zeros(),
             ranges: zero_ranges(),
         })
     }
@@ -36,12 +36,12 @@ impl System {
     ) -> Result<(), Fault>
         ensures { Decided (matrix_questions self.old part row column amount) self.old self.new result (MatrixAdded self.old self.new part row column amount) }
     {
-        let place = Place { part, row, column };
+        let spot = Spot { part, row, column };
         let Some(at) = self.matrix_index(part, row, column) else {
-            return Err(Fault::Outside(place));
+            return Err(Fault::Outside(spot));
         };
         let Some(sum) = sum_within(self.units, self.matrix[at], amount) else {
-            return Err(Fault::SumTooLarge(place));
+            return Err(Fault::SumTooLarge(spot));
         };
         self.matrix[at] = sum;
         Ok(())
@@ -51,16 +51,16 @@ impl System {
     pub fn post_payout(&mut self, part: usize, row: usize, amount: i32) -> Result<(), Fault>
         ensures { Decided (payout_questions self.old part row amount) self.old self.new result (PayoutAdded self.old self.new part row amount) }
     {
-        let place = Place {
+        let spot = Spot {
             part,
             row,
             column: 12,
         };
         let Some(at) = self.payout_index(part, row) else {
-            return Err(Fault::Outside(place));
+            return Err(Fault::Outside(spot));
         };
         let Some(sum) = sum_within(100 * self.units, self.payouts[at], amount) else {
-            return Err(Fault::SumTooLarge(place));
+            return Err(Fault::SumTooLarge(spot));
         };
         self.payouts[at] = sum;
         Ok(())
@@ -138,62 +138,39 @@ fn is_size(states: usize, settings: usize) -> bool
     states >= 1 && states <= 12 && settings <= 8
 }
 
-fn no_coefficients() -> [i32; 1296]
-    ensures { result ≡ replicate 1296 (pos 0) }
+fn zeros<const N: usize>() -> [i32; N]
+    ensures { result ≡ replicate N (pos 0) }
 {
-    [0; 1296]
-}
-
-fn no_payouts() -> [i32; 108]
-    ensures { result ≡ replicate 108 (pos 0) }
-{
-    [0; 108]
+    [0; N]
 }
 
 fn zero_ranges() -> [Span; 9]
     ensures { (v : ℕ) → spans result v ≡ point (pos 0) }
 {
-    [Span::point(0); 9]
-}
-
-// What is held and the amount added, where that is within the limit.
-fn sum_within(limit: u32, held: i32, amount: i32) -> Option<i32>
-    requires { limit < 2 ^ 31 }
-    ensures { elim result [ Some sum ↦ (sum ≡ held +ℤ amount) × (unsigned_abs (held +ℤ amount) ≤ limit) | None ↦ limit < unsigned_abs (held +ℤ amount) ] }
-{
-    let sum = i64::from(held) + i64::from(amount);
-    if sum.unsigned_abs() > u64::from(limit) {
-        return None;
-    }
-    Some(sum as i32)
+    [Span::default(); 9]
 }
 
 // Where the first number stands that is not within the limit.
 fn beyond(numbers: &[i32], limit: u32) -> Option<usize>
     ensures { elim result [ None ↦ Small limit numbers.now | Some at ↦ FirstBeyond limit numbers.now at ] }
 {
-    for (at, x) in numbers.iter().enumerate() {
-        if x.unsigned_abs() > limit {
-            return Some(at);
-        }
-    }
-    None
+    numbers.iter().position(|x| x.unsigned_abs() > limit)
 }
 
-fn matrix_spot(at: usize) -> Place
+fn matrix_spot(at: usize) -> Spot
     ensures { result ≡ matrix_spot at }
 {
-    Place {
+    Spot {
         part: at / 144,
         row: at / 12 % 12,
         column: at % 12,
     }
 }
 
-fn payout_spot(at: usize) -> Place
+fn payout_spot(at: usize) -> Spot
     ensures { result ≡ payout_spot at }
 {
-    Place {
+    Spot {
         part: at / 12,
         row: at % 12,
         column: 12,

@@ -1,6 +1,6 @@
 use Rattle.std.proofs.Common.{◌*◌, length}
 use Rattle.std.proofs.lemmas.Bool.{eq-eqb, ne_eqb}
-use Rattle.system.proofs.Verdicts.{no_here}
+use Rattle.span.proofs.Verdicts.{no_here}
 use Rattle.enclosure.specs.Boxed.{box, count_question, order_questions}
 use Rattle.enclosure.proofs.Asked.{boxed_after}
 use Rattle.enclosure.proofs.boxes.given_box.Goals as goal

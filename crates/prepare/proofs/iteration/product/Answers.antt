@@ -22,7 +22,7 @@ dot-sum-requires g c =
     let part : c.args.part ≤ 8 = omega (arith, s.size.2, c.requires.inside.0) in
     record {
       small = (few, omega (arith, mul-le-mul row few), omega arith, omega arith);
-      fits = λ k h. product_small g.T.Scale.unit s p c.requires.together g.met.T.Scale.least g.met.T.Scale.most c.states-n.result c.args.part c.args.row c.args.column k _ (n ∙ sym c.requires.together.states) c.matrix.ensures (omega arith);
+      fits = λ k h. product_small g.T.Scale.unit s p c.requires.together g.met.T.Scale.least g.met.T.Scale.most c.states-n.result c.args.part c.args.row c.args.column k _ (n ∙ sym c.requires.together.states) c.matrix.ensures.value (omega arith);
     }
 
 pub returns : goal.returns
@@ -32,6 +32,6 @@ returns g c =
     let p = c.args.proposal.now in
     let S : ℕ = g.T.Scale.unit in
     let f : ℕ → ℤ = λ l. (offered p).table c.args.row l *ℤ (game s).matrix c.args.part l c.args.column in
-    let d : c.dot-sum.result ≡ int_sum s.states f = c.dot-sum.ensures ∙ product_dotted s p c.states-n.result c.args.part c.args.row c.args.column c.states-n.result _ (c.states-n.ensures ∙ sym c.requires.together.states) c.matrix.ensures ∙ ap (λ k. int_sum k f) c.states-n.ensures in
+    let d : c.dot-sum.result ≡ int_sum s.states f = c.dot-sum.ensures ∙ product_dotted s p c.states-n.result c.args.part c.args.row c.args.column c.states-n.result _ (c.states-n.ensures ∙ sym c.requires.together.states) c.matrix.ensures.value ∙ ap (λ k. int_sum k f) c.states-n.ensures in
     let h : SFits w64 (int_sum s.states f) = integer_fits_by 600 S _ g.met.T.Scale.most (lit≤ tt) (product_sum S (some S g.met.T.Scale.least) (game s) (offered p) (admitted S s p c.requires.together) (is_offered S s p c.requires.together) c.args.part c.args.row c.args.column s.states (le_refl s.states)) in
     c.bring_back.ensures.value ∙ ap (brought S) (c.point.ensures ∙ ap point (to_z-of_z w64 _ (fits_as _ _ d h) ∙ d))

@@ -46,21 +46,21 @@ dot-sum-requires g c =
     let n : c.states-n.result ≡ s.states = c.states-n.ensures in
     record {
       small = (omega (arith, s.size.1), omega arith, omega (arith, s.size.1, s.size.2, c.requires.inside.0, c.requires.inside.1), omega arith);
-      fits = λ k h. leftover_small g.T.Scale.unit s p c.requires.together g.met.T.Scale.least g.met.T.Scale.most c.args.part c.args.row k _ c.matrix.ensures (omega arith);
+      fits = λ k h. leftover_small g.T.Scale.unit s p c.requires.together g.met.T.Scale.least g.met.T.Scale.most c.args.part c.args.row k _ c.matrix.ensures.value (omega arith);
     }
 
 pub overflow_mul-units : goal.overflow_mul-units
 overflow_mul-units g c =
     let s = c.args.system.now in
     let p = c.args.proposal.now in
-    let d = c.dot-sum.ensures ∙ leftover_dotted s p c.args.part c.args.row c.states-n.result _ c.matrix.ensures ∙ ap (λ k. int_sum k (λ j. (game s).matrix c.args.part c.args.row j *ℤ (offered p).guess j)) c.states-n.ensures in
+    let d = c.dot-sum.ensures ∙ leftover_dotted s p c.args.part c.args.row c.states-n.result _ c.matrix.ensures.value ∙ ap (λ k. int_sum k (λ j. (game s).matrix c.args.part c.args.row j *ℤ (offered p).guess j)) c.states-n.ensures in
     whole_code_fits g.T.Scale.unit s p c.requires.together g.met.T.Scale.least g.met.T.Scale.most c.args.part c.args.row _ _ _ c.units.ensures c.payout_of.ensures d
 
 pub overflow_sub-units : goal.overflow_sub-units
 overflow_sub-units g c =
     let s = c.args.system.now in
     let p = c.args.proposal.now in
-    let d = c.dot-sum.ensures ∙ leftover_dotted s p c.args.part c.args.row c.states-n.result _ c.matrix.ensures ∙ ap (λ k. int_sum k (λ j. (game s).matrix c.args.part c.args.row j *ℤ (offered p).guess j)) c.states-n.ensures in
+    let d = c.dot-sum.ensures ∙ leftover_dotted s p c.args.part c.args.row c.states-n.result _ c.matrix.ensures.value ∙ ap (λ k. int_sum k (λ j. (game s).matrix c.args.part c.args.row j *ℤ (offered p).guess j)) c.states-n.ensures in
     all_code_fits g.T.Scale.unit s p c.requires.together g.met.T.Scale.least g.met.T.Scale.most c.args.part c.args.row _ _ _ c.units.ensures c.payout_of.ensures d
 
 pub returns : goal.returns
@@ -69,7 +69,7 @@ returns g c =
     let s = c.args.system.now in
     let p = c.args.proposal.now in
     let S : ℕ = g.T.Scale.unit in
-    let d = c.dot-sum.ensures ∙ leftover_dotted s p c.args.part c.args.row c.states-n.result _ c.matrix.ensures ∙ ap (λ k. int_sum k (λ j. (game s).matrix c.args.part c.args.row j *ℤ (offered p).guess j)) c.states-n.ensures in
+    let d = c.dot-sum.ensures ∙ leftover_dotted s p c.args.part c.args.row c.states-n.result _ c.matrix.ensures.value ∙ ap (λ k. int_sum k (λ j. (game s).matrix c.args.part c.args.row j *ℤ (offered p).guess j)) c.states-n.ensures in
     let f = all_code_fits S s p c.requires.together g.met.T.Scale.least g.met.T.Scale.most c.args.part c.args.row _ _ _ c.units.ensures c.payout_of.ensures d in
     let e = all_is S s p c.requires.together g.met.T.Scale.least g.met.T.Scale.most c.args.part c.args.row _ _ _ c.units.ensures c.payout_of.ensures d in
     c.bring_back.ensures.value ∙ ap (brought S) (c.point.ensures ∙ ap point (to_z-of_z w64 _ f ∙ e))

@@ -7,4 +7,4 @@ pub returns : goal.returns
 returns c =
     let f : SFits w32 c.number_at.result = search rules in
     let k : SFits w64 c.from.result = search rules in
-    to_z-of_z w64 _ k ∙ read_narrow _ _ f c.from.ensures ∙ c.number_at.ensures ∙ ap (λ xs. get_or xs (c.args.part * 12 + c.args.row) (pos 0)) c.payouts.ensures
+    to_z-of_z w64 _ k ∙ read_narrow _ _ f c.from.ensures ∙ c.number_at.ensures ∙ ap (λ xs. get_or xs (c.args.part * 12 + c.args.row) (pos 0)) c.payouts.ensures.value

@@ -14,7 +14,7 @@ past : (xs : List Span) (i : ℕ) → length xs ≤ i → point (pos 0) ≡ span
 past xs i h = sym (get_or_past (map ends xs) i (point (pos 0)) (rw length-map h))
 
 pub returns-then-v-ranges : goal.returns-then-v-ranges
-returns-then-v-ranges c = c.point.ensures ∙ past c.ranges-ranges.result.now (c.args.v + 1) c.if-v-ranges.true ∙ moved _ _ c.args.v c.ranges-ranges.ensures
+returns-then-v-ranges c = c.point.ensures ∙ past c.ranges-ranges.result.now (c.args.v + 1) c.if-v-ranges.true ∙ moved _ _ c.args.v c.ranges-ranges.ensures.value
 
 pub returns : goal.returns
-returns c = spans_at c.ranges-ranges.result.now (c.args.v + 1) c.index-ranges-v.result _ c.if-v-ranges.false c.index-ranges-v.is ∙ moved _ _ c.args.v c.ranges-ranges.ensures
+returns c = spans_at c.ranges-ranges.result.now (c.args.v + 1) c.index-ranges-v.result _ c.if-v-ranges.false c.index-ranges-v.is ∙ moved _ _ c.args.v c.ranges-ranges.ensures.value

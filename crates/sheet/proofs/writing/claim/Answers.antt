@@ -1,7 +1,7 @@
 use Rattle.std.proofs.Common.{◌≡◌, ℕ, ◌/◌, None, arith}
 use Rattle.std.proofs.lemmas.Bool.{lt-ltb}
 use Rattle.span.specs.Questions.{first_no}
-use Rattle.system.proofs.Verdicts.{no_after, no_none}
+use Rattle.span.proofs.Verdicts.{no_after, no_none}
 use Rattle.enclosure.specs.Enclosures.{row_questions}
 use Rattle.sheet.proofs.writing.claim.Goals as goal
 

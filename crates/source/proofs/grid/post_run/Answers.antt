@@ -2,7 +2,7 @@ use Rattle.std.proofs.Common.{◌≡◌, true, false, ltb, length, get_or, pos, 
 use Rattle.std.proofs.lemmas.Bool.{le-ltb, lt-ltb}
 use Rattle.source.specs.Meaning.{in_range, index_of}
 use Rattle.source.proofs.Runs.{index_told, none_told, sum_beyond, sum_stored, sum_within}
-use Rattle.source.proofs.Verdicts.{no_none, no_here, no_after}
+use Rattle.span.proofs.Verdicts.{no_none, no_here, no_after}
 use Rattle.source.proofs.grid.post_run.Goals as goal
 
 pub returns-in_default : goal.returns-in_default

@@ -8,7 +8,7 @@ use Rattle.docket.proofs.docket.Docket.post.Goals as goal
 pub returns-then-not-has_place : goal.returns-then-not-has_place
 returns-then-not-has_place g c = record {
   unmoved = refl;
-  replied = λ M h q. rw c.seat.ensures (outside _ M h _ _ _ q c.args.place c.args.amount (sym c.if-not-has_place.ensures));
+  replied = λ M h q. rw c.spot.ensures (outside _ M h _ _ _ q c.args.place c.args.amount (sym c.if-not-has_place.ensures));
 }
 
 pub returns-then-not-sum_within : goal.returns-then-not-sum_within
@@ -19,7 +19,7 @@ returns-then-not-sum_within g c =
     let v : false ≡ leb (nat_abs (told (g.C.Source.meaning c.args.self.now.source) c.args.place +ℤ c.args.amount)) (wholes c.args.place * g.T.Scale.unit) = subst (λ z. false ≡ leb (nat_abs (z +ℤ c.args.amount)) (wholes c.args.place * g.T.Scale.unit)) c.coefficient.ensures w in
     record {
       unmoved = refl;
-      replied = λ M h q. rw c.seat-then-not-sum_within.ensures (too_large _ M h _ _ _ q c.args.place c.args.amount (sym c.if-not-has_place.ensures) (sym v));
+      replied = λ M h q. rw c.spot-then-not-sum_within.ensures (too_large _ M h _ _ _ q c.args.place c.args.amount (sym c.if-not-has_place.ensures) (sym v));
     }
 
 pub returns-in-Ok : goal.returns-in-Ok

@@ -1,7 +1,7 @@
 use Rattle.std.proofs.Common.{◌+◌, ◌*◌, ◌≤◌, refl, arith}
 use Rattle.std.proofs.lemmas.Bool.{le-ltb, lt-ltb}
 use Rattle.system.specs.Figures.{spans}
-use Rattle.system.proofs.Verdicts.{no_none, no_here, no_after}
+use Rattle.span.proofs.Verdicts.{no_none, no_here, no_after}
 use Rattle.enclosure.proofs.Accepts.{kept_within, kept_shrinks}
 use Rattle.enclosure.proofs.Scales.{same_scale, into, narrower}
 use Rattle.enclosure.proofs.enclosure.Enclosure.narrow.Goals as goal

@@ -6,7 +6,7 @@ use Rattle.span.specs.Spans.{ends}
 use Rattle.method.specs.Method.{size}
 use Rattle.method.proofs.Bounds.{interval_fits_units}
 use Rattle.system.specs.Figures.{spans}
-use Rattle.system.proofs.Verdicts.{no_none, no_here, no_after}
+use Rattle.span.proofs.Verdicts.{no_none, no_here, no_after}
 use Rattle.enclosure.proofs.Reach.{moved_fits}
 use Rattle.enclosure.proofs.Scales.{row_size}
 use Rattle.enclosure.proofs.enclosure.Enclosure.row.Goals as goal

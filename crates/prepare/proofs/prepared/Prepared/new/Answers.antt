@@ -1,7 +1,7 @@
 use Rattle.std.proofs.Common.{◌≡◌, ℕ, Some, sym, refl, ap, ◌∙◌, arith}
 use Rattle.std.proofs.lemmas.Result.{err_from_is_err_and}
 use Rattle.std.proofs.lemmas.Bool.{eqb-true}
-use Rattle.system.proofs.Verdicts.{no_here}
+use Rattle.span.proofs.Verdicts.{no_here}
 use Rattle.prepare.specs.declared.fault.Fault.TheVariants.{OtherScale}
 use Rattle.prepare.proofs.Joining.{numbers_no, together, residual_no, iteration_no, all_asked, prepared, tabled, kept_scale, kept_guesses, kept_residual, kept_iteration}
 use Rattle.prepare.proofs.prepared.Prepared.new.Goals as goal

@@ -1,6 +1,6 @@
 use Rattle.std.proofs.Common.{◌≡◌, true, false, ◌&&◌, eqb, leb, subst, inl, inr}
 use Rattle.std.proofs.lemmas.Bool.{and_from, and_left, and_right, eq-eqb, le-leb, lt-leb, ne_eqb}
-use Rattle.system.proofs.Verdicts.{no_after, no_here, no_none}
+use Rattle.span.proofs.Verdicts.{no_after, no_here, no_none}
 use Rattle.sheet.proofs.framed.framing.head.Goals as goal
 
 pub returns-then-states-lt1 : goal.returns-then-states-lt1

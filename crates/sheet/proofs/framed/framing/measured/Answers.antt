@@ -1,6 +1,6 @@
 use Rattle.std.proofs.Common.{sym, ◌∙◌}
 use Rattle.std.proofs.lemmas.Bool.{eq-eqb, ne_eqb}
-use Rattle.system.proofs.Verdicts.{no_here}
+use Rattle.span.proofs.Verdicts.{no_here}
 use Rattle.sheet.proofs.Asking.{passes_after}
 use Rattle.sheet.proofs.framed.framing.measured.Goals as goal
 

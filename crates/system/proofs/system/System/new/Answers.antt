@@ -1,7 +1,7 @@
 use Rattle.std.proofs.Common.{◌≡◌, ℕ, ◌*◌, ◌≤◌, true, false, nat_abs, arith, w64, to_z, of_z, rules}
 use Rattle.std.proofs.lemmas.Bool.Decides.{nat_tests}
 use Rattle.system.specs.Posts.{is_size}
-use Rattle.system.proofs.Verdicts.{no_none, no_here, no_after}
+use Rattle.span.proofs.Verdicts.{no_none, no_here, no_after}
 use Rattle.system.proofs.Zeros.{narrow_zeros, small_zeros}
 use Rattle.system.proofs.system.System.new.Goals as goal
 
@@ -20,8 +20,8 @@ invariant_of-result g c =
     record {
       scale = (least, most);
       size = (grind (arith, nat_tests), grind (arith, nat_tests), grind (arith, nat_tests));
-      coefficients = small_zeros S 1296 _ c.no_coefficients.ensures;
-      payments = small_zeros (100 * S) 108 _ c.no_payouts.ensures;
+      coefficients = small_zeros S 1296 _ c.zeros.ensures;
+      payments = small_zeros (100 * S) 108 _ c.zeros-2.ensures;
       reach = narrow_zeros S _ c.zero_ranges.ensures;
     }
 

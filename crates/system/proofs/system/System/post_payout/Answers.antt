@@ -1,5 +1,6 @@
-use Rattle.std.proofs.Common.{◌*◌, get_or, pos, refl, w32, SFits, rules}
-use Rattle.system.proofs.Verdicts.{no_none, no_here, no_after, sum_beyond, sum_within, sum_stored}
+use Rattle.std.proofs.Common.{◌*◌, get_or, pos, refl, arith, w32, SFits, rules}
+use Rattle.span.proofs.Verdicts.{no_none, no_here, no_after}
+use Rattle.system.proofs.Sums.{sum_beyond, sum_within, sum_stored}
 use Rattle.system.proofs.system.System.post_payout.Goals as goal
 
 pub returns-in_default : goal.returns-in_default
@@ -10,7 +11,7 @@ returns-in_default-sum_within c =
     let s = c.args.self.now in
     let place = c.in-Some.ensures in
     let held : SFits w32 (get_or s.payouts c.in-Some.at (pos 0)) = search rules in
-    let beyond = sum_beyond s.payouts c.in-Some.at _ c.args.amount place.0 held c.ranges.amount s.units 100 (100 * s.units) refl c.in_default-sum_within.ensures in
+    let beyond = sum_beyond s.payouts c.in-Some.at _ c.args.amount place.0 held c.ranges.amount s.units 100 (100 * s.units) refl (c.in_default-sum_within.ensures (omega (arith, s.scale.1))) in
     (no_after _ _ _ _ place.2 (no_here _ _ _ beyond), refl)
 
 pub returns : goal.returns

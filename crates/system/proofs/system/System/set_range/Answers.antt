@@ -4,7 +4,7 @@ use Rattle.std.proofs.lemmas.Int.{ints}
 use Rattle.span.specs.Spans.{ends}
 use Rattle.system.specs.Posts.{has_setting}
 use Rattle.system.proofs.Ranges.{both_within, ends_ordered, narrow_set, spans_set_here, spans_set_elsewhere}
-use Rattle.system.proofs.Verdicts.{no_none, no_here, no_after}
+use Rattle.span.proofs.Verdicts.{no_none, no_here, no_after}
 use Rattle.system.proofs.system.System.set_range.Goals as goal
 
 pub returns-then-not-has_setting : goal.returns-then-not-has_setting

@@ -1,7 +1,7 @@
 use Rattle.std.proofs.Common.{◌≡◌, true, false, refl}
 use Rattle.source.specs.Meaning.{in_range}
 use Rattle.source.proofs.Listings.{matrix_answer, payout_answer}
-use Rattle.source.proofs.Verdicts.{no_here}
+use Rattle.span.proofs.Verdicts.{no_here}
 use Rattle.source.proofs.list.kept.ListSource.post.Goals as goal
 
 pub returns-then-not-in_range : goal.returns-then-not-in_range

@@ -1,20 +1,8 @@
--- what the first no among questions is, and when a figure is within its limit
-use Rattle.std.proofs.Common.{◌≡◌, ℕ, ◌*◌, ◌<◌, ◌≤◌, Bool, true, false, List, [], ◌∷◌, get_or, set, ℤ, pos, ◌+ℤ◌, nat_abs, Some, None, Option, refl, ap, w32, SFits, to_z, of_z}
+-- when a figure with an amount added is within its limit
+use Rattle.std.proofs.Common.{◌≡◌, ℕ, ◌*◌, ◌<◌, ◌≤◌, true, false, List, get_or, set, ℤ, pos, ◌+ℤ◌, nat_abs, ap, w32, SFits, to_z, of_z}
 use Rattle.std.proofs.lemmas.Int.{to_z-of_z}
 use Rattle.std.proofs.lemmas.Bool.{le-leb, lt-leb}
-use Rattle.span.specs.Questions.{Question, ask, first_no, within}
-
-pub no_none : {F : Type 0} → first_no {F = F} [] ≡ None
-unfolding first_no
-no_none = refl
-
-pub no_here : {F : Type 0} (b : Bool) (f : F) (qs : List (Question F)) → b ≡ false → first_no (ask b f ∷ qs) ≡ Some f
-unfolding first_no
-no_here b f qs e = rw e refl
-
-pub no_after : {F : Type 0} (b : Bool) (f : F) (qs : List (Question F)) (r : Option F) → b ≡ true → first_no qs ≡ r → first_no (ask b f ∷ qs) ≡ r
-unfolding first_no
-no_after b f qs r e h = rw e h
+use Rattle.span.specs.Questions.{within}
 
 -- the code's sum of what stands at a place and an amount: beyond L units, within them, and stored
 module _ (xs : List ℤ) (at place : ℕ) (a : ℤ) (here : at ≡ place) (held : SFits w32 (get_or xs at (pos 0))) (amount : SFits w32 a) where
