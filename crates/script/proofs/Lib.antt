@@ -1,3 +1,3 @@
 mod Places
 mod Standing
-mod Listed
+mod Wrapped

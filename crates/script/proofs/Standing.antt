@@ -34,11 +34,21 @@ one_pair low high (Ok s) f g e = let e' = unheld low high (ends s) f g e in stan
 one_pair low high (Err y) f g e = let e' : (y ≡ LowAboveHigh low high) × (high <ℤ low) = simp to_z-of_z at e in turned low high (Err y) (ap (λ x. Err x) e'.0) e'.1
 
 -- both pairs stand
-pub both_stand : (a b c d : ℤ) (joined : Interval → Interval → Interval) (fault : Fault) (s t : Span) (r : Result Span Fault) → SFits w64 a → SFits w64 b → SFits w64 c → SFits w64 d → ends s ≡ from_to (held a) (held b) → ends t ≡ from_to (held c) (held d) → Answers r (joined (ends s) (ends t)) fault → Both a b c d joined fault r
-both_stand a b c d joined fault s t r fa fb fc fd e g h =
+pub both_stand : (a b c d : ℤ) (s t : Span) (r : Result Span Fault) {P : Span → Span → Type 0} → SFits w64 a → SFits w64 b → SFits w64 c → SFits w64 d → ends s ≡ from_to (held a) (held b) → ends t ≡ from_to (held c) (held d) → P s t → Pair a b r (Pair c d r ((x y : Span) × (ends x ≡ from_to a b) × (ends y ≡ from_to c d) × P x y))
+both_stand a b c d s t r fa fb fc fd e g h =
     let e' = unheld a b (ends s) fa fb e in
     let g' = unheld c d (ends t) fc fd g in
-    stands a b s r e' (stands c d t r g' (subst (λ i. Answers r (joined (from_to a b) i) fault) g' (subst (λ i. Answers r (joined i (ends t)) fault) e' h)))
+    stands a b s r e' (stands c d t r g' (s, t, e', g', h))
+
+-- what joins them answers
+pub joined : (a b c d : ℤ) (joins : Interval → Interval → Interval) (fault : Fault) (r : Result Span Fault) {P : Span → Span → Type 0} → ((x y : Span) → P x y → Answers r (joins (ends x) (ends y)) fault) → Pair a b r (Pair c d r ((x y : Span) × (ends x ≡ from_to a b) × (ends y ≡ from_to c d) × P x y)) → Both a b c d joins fault r
+joined a b c d joins fault r f p = record {
+  turned = p.turned;
+  ordered = λ o. record {
+    turned = (p.ordered o).turned;
+    ordered = λ u. let q = (p.ordered o).ordered u in subst (λ i. Answers r (joins (from_to a b) i) fault) q.3 (subst (λ i. Answers r (joins i (ends q.1)) fault) q.2 (f q.0 q.1 q.4));
+  };
+}
 
 -- the first pair stands and the second does not
 pub second_turned : {P : Type 0} (a b c d : ℤ) (s : Span) (r : Result Span Fault) (y : Fault) → SFits w64 a → SFits w64 b → SFits w64 c → SFits w64 d → ends s ≡ from_to (held a) (held b) → r ≡ Err y → (y ≡ LowAboveHigh (held c) (held d)) × (held d <ℤ held c) → Pair a b r (Pair c d r P)

@@ -1,6 +1,7 @@
 -- the calls by name, and how many numbers each takes
-use Rattle.std.specs.Prelude.{ℕ, List, codes}
+use Rattle.std.specs.Prelude.{◌≡◌, ℕ, List, Ok, Err, codes, Result, ◌≢◌}
 use Rattle.script.specs.declared.kind.Kind.{Kind}
+use Rattle.script.specs.declared.kind.NoKind.{NoKind}
 use Rattle.script.specs.declared.kind.Kind.TheVariants.{Bring, Span, SpanAdd, SpanSub, SpanMul, SpanBack, Audit}
 
 abbrev pub name_of : Kind → List ℕ
@@ -20,3 +21,8 @@ takes SpanSub = 4
 takes SpanMul = 4
 takes SpanBack = 2
 takes Audit = 3
+
+-- a word is read as the kind that has this name, if one has
+abbrev pub IsNamed : List ℕ → Result Kind NoKind → Type 0
+IsNamed word (Ok k) = word ≡ name_of k
+IsNamed word (Err e) = (k : Kind) → word ≢ name_of k

@@ -1,10 +1,8 @@
 // What a call answers, by the span and the audit that it asks for.
 ghost use Rattle.std.specs.Prelude.{◌≡◌};
-ghost use Rattle.span.specs.declared.fault.Fault.TheVariants.{TooLarge};
-ghost use Rattle.span.specs.declared.fault.Operation.TheVariants.{Sum, Difference, Product};
-ghost use Rattle.span.specs.Intervals.{◌+ᵢ◌, ◌-ᵢ◌, ◌*ᵢ◌};
-ghost use Rattle.script.specs.Answers.{Answered, as_range, as_row};
-ghost use Rattle.script.specs.Pairs.{Pair, Both, Brought, Row};
+ghost use Rattle.span.specs.Spans.{ends};
+ghost use Rattle.script.specs.Answers.{Answered};
+ghost use Rattle.script.specs.Pairs.{Pair, Brought, Row, from_to};
 
 use crate::call::Call;
 use audit::{Finding, audit};
@@ -27,44 +25,28 @@ impl Call {
                 let (lower, upper) = T::bring_back(v);
                 Ok(Answer::Figures { lower, upper })
             }
-            Call::Span { low, high } => range(Span::new(low, high)),
-            Call::SpanAdd { a, b, c, d } => range(sum(a, b, c, d)),
-            Call::SpanSub { a, b, c, d } => range(difference(a, b, c, d)),
-            Call::SpanMul { a, b, c, d } => range(product(a, b, c, d)),
-            Call::SpanBack { low, high } => range(brought_back::<T>(low, high)),
-            Call::Audit { guess, low, high } => row(audited::<T>(guess, low, high)),
+            Call::Span { low, high } => Span::new(low, high).map(Answer::Range),
+            Call::SpanAdd { a, b, c, d } => both(a, b, c, d, Span::add).map(Answer::Range),
+            Call::SpanSub { a, b, c, d } => both(a, b, c, d, Span::subtract).map(Answer::Range),
+            Call::SpanMul { a, b, c, d } => both(a, b, c, d, Span::multiply).map(Answer::Range),
+            Call::SpanBack { low, high } => brought_back::<T>(low, high).map(Answer::Range),
+            Call::Audit { guess, low, high } => audited::<T>(guess, low, high).map(Answer::Row),
         }
     }
 }
 
-fn range(found: Result<Span, Fault>) -> Result<Answer, Fault>
-    ensures { result ≡ as_range found }
+// a..b joined with c..d.
+fn both<F: FnOnce(Span, Span) -> Result<Span, Fault>>(
+    a: i64,
+    b: i64,
+    c: i64,
+    d: i64,
+    join: F,
+) -> Result<Span, Fault>
+    requires { F.IsAlwaysCallable join }
+    ensures { Pair a b result (Pair c d result ((s t : Span) × (ends s ≡ from_to a b) × (ends t ≡ from_to c d) × F.post join s t result)) }
 {
-    Ok(Answer::Range(found?))
-}
-
-fn row(found: Result<Finding, Fault>) -> Result<Answer, Fault>
-    ensures { result ≡ as_row found }
-{
-    Ok(Answer::Row(found?))
-}
-
-fn sum(a: i64, b: i64, c: i64, d: i64) -> Result<Span, Fault>
-    ensures { Both a b c d ◌+ᵢ◌ (TooLarge Sum) result }
-{
-    Span::new(a, b)?.add(Span::new(c, d)?)
-}
-
-fn difference(a: i64, b: i64, c: i64, d: i64) -> Result<Span, Fault>
-    ensures { Both a b c d ◌-ᵢ◌ (TooLarge Difference) result }
-{
-    Span::new(a, b)?.subtract(Span::new(c, d)?)
-}
-
-fn product(a: i64, b: i64, c: i64, d: i64) -> Result<Span, Fault>
-    ensures { Both a b c d ◌*ᵢ◌ (TooLarge Product) result }
-{
-    Span::new(a, b)?.multiply(Span::new(c, d)?)
+    join(Span::new(a, b)?, Span::new(c, d)?)
 }
 
 fn brought_back<T: Scale>(low: i64, high: i64) -> Result<Span, Fault>

@@ -1,7 +1,9 @@
 // The kinds of call, each with its name and how many numbers it takes.
-ghost use Rattle.std.specs.Prelude.{◌≡◌, MatchOption, ◌≢◌};
-ghost use Rattle.script.specs.declared.kind.Kind.{Kind};
-ghost use Rattle.script.specs.Kinds.{name_of, takes};
+ghost use Rattle.std.specs.Prelude.{◌≡◌, Some};
+ghost use Rattle.script.specs.Kinds.{IsNamed, name_of, takes};
+
+use std::fmt;
+use std::str::FromStr;
 
 #[derive(Clone, Copy, PartialEq, Eq, Debug)]
 pub enum Kind {
@@ -14,27 +16,34 @@ pub enum Kind {
     Audit,
 }
 
-impl Kind {
-    // The kind that has this name, if one has.
-    pub fn named(word: &str) -> Option<Kind>
-        ensures { MatchOption result ((k : Kind) → word.now ≢ name_of k) (λ k. word.now ≡ name_of k) }
-    {
+// No kind has the word for its name.
+#[derive(Clone, Copy, PartialEq, Eq, Debug)]
+pub struct NoKind;
+
+impl FromStr for Kind {
+    type Err = NoKind;
+
+    ghost from_str_gives = { IsNamed };
+
+    fn from_str(word: &str) -> Result<Kind, NoKind> {
         match word {
-            "bring" => Some(Kind::Bring),
-            "span" => Some(Kind::Span),
-            "span-add" => Some(Kind::SpanAdd),
-            "span-sub" => Some(Kind::SpanSub),
-            "span-mul" => Some(Kind::SpanMul),
-            "span-back" => Some(Kind::SpanBack),
-            "audit" => Some(Kind::Audit),
-            _ => None,
+            "bring" => Ok(Kind::Bring),
+            "span" => Ok(Kind::Span),
+            "span-add" => Ok(Kind::SpanAdd),
+            "span-sub" => Ok(Kind::SpanSub),
+            "span-mul" => Ok(Kind::SpanMul),
+            "span-back" => Ok(Kind::SpanBack),
+            "audit" => Ok(Kind::Audit),
+            _ => Err(NoKind),
         }
     }
+}
 
-    pub fn name(self) -> &'static str
-        ensures { result.now ≡ name_of self }
-    {
-        match self {
+impl fmt::Display for Kind {
+    ghost output = { λ k. Some (name_of k) };
+
+    fn fmt<W: fmt::Write>(&self, f: &mut fmt::Formatter<W>) -> fmt::Result {
+        f.write_str(match self {
             Kind::Bring => "bring",
             Kind::Span => "span",
             Kind::SpanAdd => "span-add",
@@ -42,9 +51,11 @@ impl Kind {
             Kind::SpanMul => "span-mul",
             Kind::SpanBack => "span-back",
             Kind::Audit => "audit",
-        }
+        })
     }
+}
 
+impl Kind {
     // How many numbers the call takes.
     pub fn count(self) -> usize
         ensures { result ≡ takes self }

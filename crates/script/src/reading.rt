@@ -13,7 +13,7 @@ const MOST: usize = 4;
 pub fn read<'a>(name: &'a str, words: &[&'a str]) -> Result<Call, Mistake<'a>>
     ensures { Read name.now (texts words.now) result }
 {
-    let Some(kind) = Kind::named(name) else {
+    let Ok(kind) = name.parse::<Kind>() else {
         return Err(Mistake::UnknownCall { word: name });
     };
     let given = words.len();
@@ -21,7 +21,7 @@ pub fn read<'a>(name: &'a str, words: &[&'a str]) -> Result<Call, Mistake<'a>>
         return Err(Mistake::WrongCount { kind, given });
     }
     let read = numbers(words)?;
-    Call::new(kind, &read[0..given]).ok_or(Mistake::WrongCount { kind, given })
+    Call::new(kind, &read[..given]).ok_or(Mistake::WrongCount { kind, given })
 }
 
 // The whole number that a word writes, where it is one and fits.
@@ -31,7 +31,8 @@ pub fn number(word: &str) -> Option<i64>
     word.parse::<i64>().ok()
 }
 
-// The words' numbers, in the first places; the others stay 0.
+// The words' numbers, in the first places; the others stay 0. In an array, since reading a line
+// takes no memory that it could run out of.
 fn numbers<'a>(words: &[&'a str]) -> Result<[i64; MOST], Mistake<'a>>
     requires { length words.now ≤ 4 }
     ensures { Numbers (texts words.now) result }
