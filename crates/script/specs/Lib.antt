@@ -3,3 +3,4 @@ pub mod Calls
 pub mod Reading
 pub mod Pairs
 pub mod Answers
+pub mod Mistakes

@@ -1,16 +1,15 @@
 -- one digit more of a figure, with the comma that may follow it
-use Rattle.std.proofs.Common.{◌≡◌, ℕ, suc, ◌-◌, ◌<◌, true, false, cond, List, [], ◌∷◌, ◌++◌, length, get_or, IsAscii, sym, refl, ap, ◌∙◌, subst, append_assoc, append-nil, arith, lit<}
+use Rattle.std.proofs.Common.{◌≡◌, ℕ, suc, ◌<◌, true, false, cond, List, [], ◌∷◌, ◌++◌, length, get_or, IsAscii, sym, refl, ap, ◌∙◌, subst, append_assoc, append-nil, arith, lit<}
 use lib.Utf8.{encode}
 use Rattle.std.proofs.lemmas.Str.{encode_ascii}
 use Rattle.wording.specs.Grouping.{commas, whole_groups}
 
 -- text, then the digits that are left, are the whole figure
-pub record Sofar (text rest all : List ℕ) (left : ℕ) : Type 0 where
-  pub count : left ≡ length rest
+pub record Sofar (text rest all : List ℕ) : Type 0 where
   pub plain : IsAscii rest
   pub whole : text ++ commas rest ≡ commas all
 
-module _ {text rest all : List ℕ} {left : ℕ} (old : Sofar text rest all left) where
+module _ {text rest all : List ℕ} (old : Sofar text rest all) where
   pub done : length rest ≡ 0 → text ≡ commas all
   done e = sym (append-nil text) ∙ ap (λ l. text ++ l) (none rest e) ∙ old.whole
     where
@@ -22,9 +21,6 @@ module _ {text rest all : List ℕ} {left : ℕ} (old : Sofar text rest all left
     low : d < 128
     low = subst (λ l. get_or l 0 0 < 128) steps (old.plain 0)
 
-    one_less : left - 1 ≡ length next
-    one_less = omega (arith, old.count, ap length steps)
-
     next_plain : IsAscii next
     next_plain i = subst (λ l. get_or l (suc i) 0 < 128) steps (old.plain (suc i))
 
@@ -34,16 +30,14 @@ module _ {text rest all : List ℕ} {left : ℕ} (old : Sofar text rest all left
     put : {more : List ℕ} → more ≡ text ++ encode d → more ≡ text ++ (d ∷ [])
     put e = e ∙ ap (λ l. text ++ l) (encode_ascii d low)
 
-    pub digit : {more : List ℕ} → more ≡ text ++ encode d → whole_groups (left - 1) ≡ false → Sofar more next all (left - 1)
+    pub digit : {more : List ℕ} → more ≡ text ++ encode d → whole_groups (length next) ≡ false → Sofar more next all
     digit {more} e w = record {
-      count = one_less;
       plain = next_plain;
-      whole = ap (λ t. t ++ commas next) (put e) ∙ append_assoc text (d ∷ []) (commas next) ∙ ap (λ b. text ++ (d ∷ cond b (44 ∷ commas next) (commas next))) (sym (ap whole_groups (sym one_less) ∙ w)) ∙ before;
+      whole = ap (λ t. t ++ commas next) (put e) ∙ append_assoc text (d ∷ []) (commas next) ∙ ap (λ b. text ++ (d ∷ cond b (44 ∷ commas next) (commas next))) (sym w) ∙ before;
     }
 
-    pub digit_comma : {more most : List ℕ} → more ≡ text ++ encode d → most ≡ more ++ encode 44 → whole_groups (left - 1) ≡ true → Sofar most next all (left - 1)
+    pub digit_comma : {more most : List ℕ} → more ≡ text ++ encode d → most ≡ more ++ encode 44 → whole_groups (length next) ≡ true → Sofar most next all
     digit_comma {more} {most} e f w = record {
-      count = one_less;
       plain = next_plain;
-      whole = ap (λ t. t ++ commas next) (f ∙ ap (λ l. more ++ l) (encode_ascii 44 (lit< tt)) ∙ ap (λ t. t ++ (44 ∷ [])) (put e)) ∙ simp append_assoc (ap (λ b. text ++ (d ∷ cond b (44 ∷ commas next) (commas next))) (sym (ap whole_groups (sym one_less) ∙ w)) ∙ before);
+      whole = ap (λ t. t ++ commas next) (f ∙ ap (λ l. more ++ l) (encode_ascii 44 (lit< tt)) ∙ ap (λ t. t ++ (44 ∷ [])) (put e)) ∙ simp append_assoc (ap (λ b. text ++ (d ∷ cond b (44 ∷ commas next) (commas next))) (sym w) ∙ before);
     }

@@ -1,2 +1,1 @@
 mod Commas
-mod Worded

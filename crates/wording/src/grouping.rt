@@ -20,13 +20,13 @@ fn with_commas(heap: Global, digits: &str) -> Result<String, AllocError>
     ensures { IfOk result (λ s. string_bytes s ≡ commas digits.now) }
 {
     let mut text = String::new(heap);
-    let mut left = digits.len();
-    for digit in digits.bytes() {
-        left -= 1;
-        text.push(digit as char)?;
-        if whole_groups(left) {
+    let mut left = digits.as_bytes();
+    while let Some((digit, others)) = left.split_first() {
+        text.push(char::from(*digit))?;
+        if whole_groups(others.len()) {
             text.push(',')?;
         }
+        left = others;
     }
     Ok(text)
 }

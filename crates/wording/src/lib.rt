@@ -1,4 +1,4 @@
-// How answers, refusals and mistakes are worded.
+// How answers and refusals are worded.
 #![tactic(auto)]
 
 mod grouping;
@@ -7,4 +7,4 @@ mod phrases;
 
 pub use grouping::grouped;
 pub use moved::Moved;
-pub use phrases::{bare, mistaken, sentence, told};
+pub use phrases::{bare, sentence, told, told_range};

@@ -1,12 +1,12 @@
-// How answers, refusals and mistakes are worded: bare for other programs, in full for people.
+// How answers and refusals are worded: bare for other programs, in full for people.
 ghost use Rattle.std.specs.Prelude.{◌≡◌, IfOk, string_bytes};
-ghost use Rattle.wording.specs.Wording.{answer_text, bare_answer, bare_text, count_text, layer_text, mistake_text, operation_text, range_text, row_text, sentence_text, told_text};
+ghost use Rattle.wording.specs.Wording.{answer_text, bare_answer, bare_text, range_text, row_text, sentence_text, told_text};
 
 use crate::grouping::grouped;
 use crate::moved::Moved;
 use audit::Finding;
-use script::{Answer, Kind, Mistake};
-use span::{Fault, Layer, Operation};
+use script::Answer;
+use span::Fault;
 use std::alloc::{AllocError, Global};
 
 // What a call came to, in one line for other programs.
@@ -17,7 +17,7 @@ pub fn bare(heap: Global, found: &Result<Answer, Fault>) -> Result<String, Alloc
         Ok(answer) => bare_line(heap, answer),
         Err(fault) => {
             let number = fault.number();
-            let layer = layer_name(fault.layer());
+            let layer = fault.layer();
             format!(in heap; "no {number} {layer} 0 0 0")
         }
     }
@@ -52,7 +52,7 @@ pub fn told(heap: Global, found: &Result<Answer, Fault>) -> Result<String, Alloc
         Ok(answer) => told_answer(heap, answer),
         Err(fault) => {
             let number = fault.number();
-            let layer = layer_name(fault.layer());
+            let layer = fault.layer();
             let why = sentence(heap, fault)?;
             format!(in heap; "turned down, {number} ({layer}): {why}")
         }
@@ -73,7 +73,8 @@ fn told_answer(heap: Global, answer: &Answer) -> Result<String, AllocError>
     }
 }
 
-fn told_range(heap: Global, low: i64, high: i64) -> Result<String, AllocError>
+// A range, from its low end to its high end.
+pub fn told_range(heap: Global, low: i64, high: i64) -> Result<String, AllocError>
     ensures { IfOk result (λ s. string_bytes s ≡ range_text low high) }
 {
     let low = grouped(heap, low)?;
@@ -107,54 +108,7 @@ pub fn sentence(heap: Global, fault: &Fault) -> Result<String, AllocError>
             format!(in heap; "the low end, {low}, is above the high end, {high}")
         }
         Fault::TooLarge(operation) => {
-            let result = operation_name(*operation);
-            format!(in heap; "the {result} does not fit signed 64 bits")
+            format!(in heap; "the {operation} does not fit signed 64 bits")
         }
     }
-}
-
-fn operation_name(operation: Operation) -> &'static str
-    ensures { result.now ≡ operation_text operation }
-{
-    match operation {
-        Operation::Sum => "sum",
-        Operation::Difference => "difference",
-        Operation::Product => "product",
-    }
-}
-
-fn layer_name(layer: Layer) -> &'static str
-    ensures { result.now ≡ layer_text layer }
-{
-    match layer {
-        Layer::Span => "span",
-        Layer::Source => "source",
-        Layer::Docket => "docket",
-        Layer::Sheet => "sheet",
-    }
-}
-
-// What is wrong with a line that is no call.
-pub fn mistaken(heap: Global, mistake: &Mistake) -> Result<String, AllocError>
-    ensures { IfOk result (λ s. string_bytes s ≡ mistake_text mistake.now) }
-{
-    match mistake {
-        Mistake::UnknownCall { word } => format!(in heap;
-            "\"{word}\" is no call; expected bring, span, span-add, span-sub, span-mul, span-back or audit"
-        ),
-        Mistake::WrongCount { kind, given } => wrong_count(heap, *kind, *given),
-        Mistake::NotANumber { word } => format!(in heap;
-            "\"{word}\" is not a whole number from -9,223,372,036,854,775,808 to 9,223,372,036,854,775,807"
-        ),
-    }
-}
-
-fn wrong_count(heap: Global, kind: Kind, given: usize) -> Result<String, AllocError>
-    ensures { IfOk result (λ s. string_bytes s ≡ count_text kind given) }
-{
-    let name = kind.name();
-    let count = kind.count();
-    let numbers = if count == 1 { "number" } else { "numbers" };
-    let were = if given == 1 { "was" } else { "were" };
-    format!(in heap; "{name} takes {count} {numbers}, {given} {were} given")
 }

@@ -1,7 +1,9 @@
-use Rattle.std.proofs.Common.{string_bytes}
-use Rattle.std.specs.Str.Iter.{bytes_rest}
+use Rattle.std.proofs.Common.{length, string_bytes}
 use Rattle.wording.proofs.Commas.{Sofar}
 use Rattle.wording.proofs.grouping.with_commas.Given as goal
 
 abbrev pub invariant-loop-digit : goal.invariant-loop-digit
-invariant-loop-digit l = Sofar (string_bytes l.text) (bytes_rest l.digit-iterator) l.digits l.left
+invariant-loop-digit l = Sofar (string_bytes l.text) l.left l.digits
+
+abbrev pub decreases-loop-digit : goal.decreases-loop-digit
+decreases-loop-digit l = length l.left
