@@ -1,17 +1,19 @@
 -- lists of amounts, word by word
-use Rattle.std.proofs.Common.{◌≡◌, ℕ, ◌+◌, ◌-◌, ◌<◌, ◌≤◌, List, [], ◌∷◌, ◌++◌, length, take, drop, ℤ, Ok, Err, vec_items, codes, Result, Vec, sym, refl, ap, ◌∙◌, subst, inl, inr, append_assoc, append-nil, add-one, arith, length-drop, drop-cons, Bor}
-use native.Mathlib.Nat.{sub-zero}
+use Rattle.std.proofs.Common.{◌≡◌, ℕ, ◌+◌, ◌-◌, ◌<◌, ◌≤◌, List, [], ◌∷◌, ◌++◌, length, take, drop, ℤ, Some, None, Option, MatchOption, Ok, Err, vec_items, codes, Result, Vec, sym, refl, ap, ◌∙◌, subst, inl, inr, append_assoc, append-nil, add-one, arith, length-drop, drop-cons, Bor}
 use Rattle.std.proofs.lemmas.List.{drop_all, drop-map, take_all, take-map}
 use Rattle.std.proofs.lemmas.Bool.{cases_order}
+use Rattle.std.specs.List.{AllWithin, HoldsAt}
 use Rattle.std.specs.Str.Parse.{signed_digits_value}
 use Rattle.std.specs.declared.alloc.Global.{Global}
 use Rattle.asking.specs.declared.asked.Asked.{Asked}
 use Rattle.asking.specs.declared.figure.Form.TheVariants as form
 use Rattle.asking.specs.declared.mistake.Mistake.{Mistake}
 use Rattle.asking.specs.declared.mistake.Mistake.TheVariants.{NoStroke}
+use Rattle.asking.specs.declared.mistake.Unread.{Unread}
+use Rattle.asking.specs.declared.mistake.Unread.TheVariants.{Mistaken, OutOfMemory}
 use Rattle.asking.specs.Figures.{Amount}
-use Rattle.asking.specs.Lines.{Amounts, Got, Parted, at, texts}
-use Rattle.asking.proofs.Words.{amount, no_amount, passed}
+use Rattle.asking.specs.Lines.{Amounts, FirstStroke, Got, Heard, Parted, Stroke, at, texts}
+use Rattle.asking.proofs.Words.{amount, as_many, at_place, no_amount, passed}
 
 -- once the words from i on are asked, all are
 pub record Sofar (words : List (List ℕ)) (items : List ℤ) (i : ℕ) : Type 0 where
@@ -41,7 +43,7 @@ read_on P f (w ∷ ws) v r fits h = record {
   told = λ no. absurd (h.told no);
 }
 
-told_on : (T : Type 0) (P : List ℤ → Type 0) (words : List (List ℕ)) (e : Mistake) → Amounts {T = Vec ℤ Global} words (Err e) (λ _. ⊥) → Amounts {T = T} words (Err e) P
+pub told_on : (T : Type 0) (P : List ℤ → Type 0) (words : List (List ℕ)) (e : Mistake) → Amounts {T = Vec ℤ Global} words (Err e) (λ _. ⊥) → Amounts {T = T} words (Err e) P
 told_on T P [] e h = absurd h
 told_on T P (w ∷ ws) e h = record {
   read = λ n. told_on T (λ ns. P (signed_digits_value 10 w ∷ ns)) ws e (h.read n);
@@ -55,22 +57,44 @@ module _ (words : List (List ℕ)) (q : Result (Vec ℤ Global) Mistake) (h : Am
   pub told_of : (T : Type 0) (P : List ℤ → Type 0) (e : Mistake) → q ≡ Err e → Amounts {T = T} words (Err e) P
   told_of T P e is = told_on T P words e (subst (λ q. Amounts words q (λ ns. Got vec_items ns q)) is h)
 
+-- what was read of a list of amounts
+abbrev pub ReadAs : List (List ℕ) → Result (Vec ℤ Global) Mistake → Type 0
+ReadAs words q = Amounts words q (λ ns. Got vec_items ns q)
+
+-- where a list is not read, nor is what it stands in
+pub unheard : (R : Result Asked Mistake → Type 0) (words : List (List ℕ)) (u : Unread) → ((e : Mistake) → Amounts {T = Vec ℤ Global} words (Err e) (λ ns. ⊥) → R (Err e)) → Heard {T = Vec ℤ Global} (Err u) (ReadAs words) → Heard (Err u) R
+unheard R words (Mistaken m) f h = f m h
+unheard R words OutOfMemory f h = h
+
+-- a word borrowed at a place
+no_word : Bor (List ℕ)
+no_word = record { ref_ptr = (0, 0); now = [] }
+
+-- what was found among the words, said of their texts
+pub stroke_found : (words : List (Bor (List ℕ))) (found : Option ℕ) → MatchOption found (AllWithin (λ w. w.now ≡ codes "/" → ⊥) words 0 (length words)) (λ i. (i < length words) × HoldsAt (λ w. w.now ≡ codes "/") words i × AllWithin (λ w. w.now ≡ codes "/" → ⊥) words 0 i) → Stroke (texts words) found
+stroke_found words None h = λ s l e. let k : s < length words = omega (arith, as_many words) in h s no_word (omega arith) k (sym (at_place words s no_word k) ∙ e)
+stroke_found words (Some i) h = record {
+  within = omega (arith, as_many words, h.0);
+  here = at_place words i no_word h.0 ∙ h.1 no_word;
+  before = λ k l e. h.2 k no_word (omega arith) l (sym (at_place words k no_word (omega (arith, h.0))) ∙ e);
+}
+
 -- the first stroke is one only
-pub parted : {r : Result Asked Mistake} {P : List (List ℕ) → List (List ℕ) → Type 0} (words : List (List ℕ)) (s : ℕ) → s < length words → at words s ≡ codes "/" → ((k : ℕ) → k < s → at words k ≡ codes "/" → ⊥) → P (take s words) (drop (s + 1) words) → Parted words r P
-parted {r} {P} words s h is before p = record {
+pub parted : {r : Result Asked Mistake} {P : List (List ℕ) → List (List ℕ) → Type 0} (words : List (List ℕ)) (s : ℕ) → FirstStroke words s → P (take s words) (drop (s + 1) words) → Parted words r P
+parted {r} {P} words s first-one p = record {
   parted = λ t g it first. subst (λ n. P (take n words) (drop (n + 1) words)) (same t it first) p;
-  unparted = λ none. absurd (none s h is);
+  unparted = λ none. absurd (none s first-one.within first-one.here);
 }
   where
     same : (t : ℕ) → at words t ≡ codes "/" → ((k : ℕ) → k < t → at words k ≡ codes "/" → ⊥) → s ≡ t
-    same t it first = elim (cases_order s t) [ inl e ↦ e | inr o ↦ elim o [ inl l ↦ absurd (first s l is) | inr g ↦ absurd (before t g it) ] ]
+    same t it first = elim (cases_order s t) [ inl e ↦ e | inr o ↦ elim o [ inl l ↦ absurd (first s l first-one.here) | inr g ↦ absurd (first-one.before t g it) ] ]
 
 pub unparted : {r : Result Asked Mistake} {P : List (List ℕ) → List (List ℕ) → Type 0} (words : List (List ℕ)) → ((k : ℕ) → k < length words → at words k ≡ codes "/" → ⊥) → r ≡ Err NoStroke → Parted words r P
 unparted words none e = record { parted = λ s h is first. absurd (none s h is); unparted = λ _. e }
 
 -- the parts of the words that the code lends
-pub front : (words : List (Bor (List ℕ))) (s : ℕ) → texts (take (s - 0) words) ≡ take s (texts words)
-front words s = ap (λ n. texts (take n words)) (sub-zero s) ∙ sym (take-map (λ w. w.now) s words)
+pub front : (words : List (Bor (List ℕ))) (s : ℕ) → texts (take s words) ≡ take s (texts words)
+front words s = sym (take-map (λ w. w.now) s words)
 
 pub back : (words : List (Bor (List ℕ))) (n : ℕ) → texts (take (length words - n) (drop n words)) ≡ drop n (texts words)
 back words n = ap texts (take_all (length words - n) (drop n words) (simp length-drop (omega arith))) ∙ sym (drop-map (λ w. w.now) n words)

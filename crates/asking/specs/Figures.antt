@@ -21,6 +21,11 @@ Told form word (Err (WrongCount kind given)) = ⊥
 Told form word (Err NoStroke) = ⊥
 Told form word (Err (NotANumber f bad)) = (f ≡ form) × (bad.now ≡ word)
 
+-- a number is one that the word gives; where it gives none the word is told
+abbrev pub Numbered : {N E : Type 0} → (List ℕ → Result N E → Type 0) → Form → List ℕ → Result N Mistake → Type 0
+Numbered gives form word (Ok n) = gives word (Ok n)
+Numbered {N} {E} gives form word (Err m) = ((e : E) × gives word (Err e)) × Told {T = N} form word (Err m)
+
 -- where the word is such a number P holds of it, else the word is told
 pub record Whole {T : Type 0} (form : Form) (word : List ℕ) (r : Result T Mistake) (P : ℕ → Type 0) : Type 0 where
   pub read : IsNumber form word → P (digits_value 10 (without_leading_plus word))

@@ -1,5 +1,5 @@
 -- what a line's words ask: its name, then how many words follow, then each in turn
-use Rattle.std.specs.Prelude.{◌≡◌, ℕ, ◌+◌, ◌<◌, ◌⊎◌, List, [], ◌∷◌, map, length, take, drop, ℤ, Ok, Err, vec_items, codes, Result, Vec, ◌≢◌, slice_index_or}
+use Rattle.std.specs.Prelude.{◌≡◌, ℕ, ◌+◌, ◌<◌, ◌⊎◌, List, [], ◌∷◌, map, length, take, drop, ℤ, Some, None, Ok, Err, vec_items, codes, Option, Result, Vec, ◌≢◌, slice_index_or}
 use Rattle.std.specs.Borrow.{Bor}
 use Rattle.std.specs.declared.alloc.Global.{Global}
 use Rattle.source.specs.declared.place.Place.TheVariants.{Matrix, Payout}
@@ -10,6 +10,8 @@ use Rattle.asking.specs.declared.kind.Kind.{Kind}
 use Rattle.asking.specs.declared.kind.Kind.TheVariants as kind
 use Rattle.asking.specs.declared.mistake.Mistake.{Mistake}
 use Rattle.asking.specs.declared.mistake.Mistake.TheVariants.{UnknownCall, WrongCount, NoStroke, NotANumber}
+use Rattle.asking.specs.declared.mistake.Unread.{Unread}
+use Rattle.asking.specs.declared.mistake.Unread.TheVariants.{Mistaken, OutOfMemory}
 use Rattle.asking.specs.Figures.{Whole, Amount}
 use Rattle.asking.specs.Kinds.{name_of}
 
@@ -18,6 +20,12 @@ texts words = map (λ w. w.now) words
 
 abbrev pub at : List (List ℕ) → ℕ → List ℕ
 at words i = slice_index_or words i []
+
+-- P of what was read or of the mistake; nothing where memory ran out
+abbrev pub Heard : {T : Type 0} → Result T Unread → (Result T Mistake → Type 0) → Type 0
+Heard (Ok x) P = P (Ok x)
+Heard (Err (Mistaken m)) P = P (Err m)
+Heard (Err OutOfMemory) P = Unit {0}
 
 -- where k words were given P holds, else the count is told
 pub record Counted (kind : Kind) (k : ℕ) (words : List (List ℕ)) (r : Result Asked Mistake) (P : Type 0) : Type 0 where
@@ -55,10 +63,23 @@ abbrev pub Got : {T : Type 0} → (T → List ℤ) → List ℤ → Result T Mis
 Got items ns (Ok x) = items x ≡ ns
 Got items ns (Err e) = ⊥
 
+pub record FirstStroke (words : List (List ℕ)) (s : ℕ) : Type 0 where
+  pub within : s < length words
+  pub here : at words s ≡ codes "/"
+  pub before : (k : ℕ) → k < s → at words k ≢ codes "/"
+
+abbrev pub NoneStroke : List (List ℕ) → Type 0
+NoneStroke words = (s : ℕ) → s < length words → at words s ≢ codes "/"
+
+-- where the first stroke stands, if one does
+abbrev pub Stroke : List (List ℕ) → Option ℕ → Type 0
+Stroke words (Some s) = FirstStroke words s
+Stroke words None = NoneStroke words
+
 -- P holds of the words before the first stroke and of those after it; where none stands, that is told
 pub record Parted (words : List (List ℕ)) (r : Result Asked Mistake) (P : List (List ℕ) → List (List ℕ) → Type 0) : Type 0 where
   pub parted : (s : ℕ) → s < length words → at words s ≡ codes "/" → ((k : ℕ) → k < s → at words k ≢ codes "/") → P (take s words) (drop (s + 1) words)
-  pub unparted : ((s : ℕ) → s < length words → at words s ≢ codes "/") → r ≡ Err NoStroke
+  pub unparted : NoneStroke words → r ≡ Err NoStroke
 
 -- r asks for a proposal of these numbers, or for a try of them
 abbrev pub Proposes : List ℤ → List ℤ → Result Asked Mistake → Type 0

@@ -1,9 +1,11 @@
 // The kinds of call about a game, each with its name.
-ghost use Rattle.std.specs.Prelude.{◌≡◌, MatchOption, ◌≢◌};
-ghost use Rattle.asking.specs.declared.kind.Kind.{Kind};
-ghost use Rattle.asking.specs.Kinds.{name_of};
+ghost use Rattle.std.specs.Prelude.{Some};
+ghost use Rattle.asking.specs.Kinds.{IsNamed, name_of};
 
-#[derive(Clone, Copy)]
+use std::fmt;
+use std::str::FromStr;
+
+#[derive(Clone, Copy, PartialEq, Eq, Debug)]
 pub enum Kind {
     Open,
     PostMatrix,
@@ -17,30 +19,37 @@ pub enum Kind {
     Table,
 }
 
-impl Kind {
-    // The kind that has this name, if one has.
-    pub fn named(word: &str) -> Option<Kind>
-        ensures { MatchOption result ((k : Kind) → word.now ≢ name_of k) (λ k. word.now ≡ name_of k) }
-    {
+// No kind has the word for its name.
+#[derive(Clone, Copy, PartialEq, Eq, Debug)]
+pub struct NoKind;
+
+impl FromStr for Kind {
+    type Err = NoKind;
+
+    ghost from_str_gives = { IsNamed };
+
+    fn from_str(word: &str) -> Result<Kind, NoKind> {
         match word {
-            "open" => Some(Kind::Open),
-            "post-matrix" => Some(Kind::PostMatrix),
-            "post-payout" => Some(Kind::PostPayout),
-            "range" => Some(Kind::Range),
-            "propose" => Some(Kind::Propose),
-            "try" => Some(Kind::Try),
-            "run" => Some(Kind::Run),
-            "narrow" => Some(Kind::Narrow),
-            "row" => Some(Kind::Row),
-            "table" => Some(Kind::Table),
-            _ => None,
+            "open" => Ok(Kind::Open),
+            "post-matrix" => Ok(Kind::PostMatrix),
+            "post-payout" => Ok(Kind::PostPayout),
+            "range" => Ok(Kind::Range),
+            "propose" => Ok(Kind::Propose),
+            "try" => Ok(Kind::Try),
+            "run" => Ok(Kind::Run),
+            "narrow" => Ok(Kind::Narrow),
+            "row" => Ok(Kind::Row),
+            "table" => Ok(Kind::Table),
+            _ => Err(NoKind),
         }
     }
+}
 
-    pub fn name(self) -> &'static str
-        ensures { result.now ≡ name_of self }
-    {
-        match self {
+impl fmt::Display for Kind {
+    ghost output = { λ k. Some (name_of k) };
+
+    fn fmt<W: fmt::Write>(&self, f: &mut fmt::Formatter<W>) -> fmt::Result {
+        f.write_str(match self {
             Kind::Open => "open",
             Kind::PostMatrix => "post-matrix",
             Kind::PostPayout => "post-payout",
@@ -51,6 +60,6 @@ impl Kind {
             Kind::Narrow => "narrow",
             Kind::Row => "row",
             Kind::Table => "table",
-        }
+        })
     }
 }

@@ -12,5 +12,5 @@ mod reading;
 pub use asked::Asked;
 pub use figure::Form;
 pub use kind::Kind;
-pub use mistake::Mistake;
+pub use mistake::{Mistake, Unread};
 pub use reading::read;

@@ -1,69 +1,41 @@
 // Calls with lists of amounts, from the words that follow the name.
-ghost use Rattle.std.specs.Prelude.{◌≡◌, ℕ, ◌<◌, ◌≤◌, length, IfOk, vec_items, codes, ◌≢◌};
-ghost use Rattle.asking.specs.Lines.{Amounts, Got, SaysPropose, SaysTry, at, texts};
+ghost use Rattle.std.specs.Prelude.{vec_items};
+ghost use Rattle.asking.specs.Lines.{Amounts, Got, Heard, SaysPropose, SaysTry, Stroke, texts};
 
 use crate::asked::Asked;
 use crate::figure::amount;
-use crate::mistake::Mistake;
-use std::alloc::{AllocError, Global};
+use crate::mistake::{Mistake, Unread};
+use std::alloc::Global;
 
 // R by rows, a stroke, and the guesses.
-pub(crate) fn propose<'a>(
-    heap: Global,
-    words: &[&'a str],
-) -> Result<Result<Asked, Mistake<'a>>, AllocError>
-    ensures { IfOk result (λ r. SaysPropose (texts words.now) r) }
+pub(crate) fn propose<'a>(heap: Global, words: &[&'a str]) -> Result<Asked, Unread<'a>>
+    ensures { Heard result (SaysPropose (texts words.now)) }
 {
-    let stroke = first_stroke(words);
-    if stroke == words.len() {
-        return Ok(Err(Mistake::NoStroke));
-    }
-    let table = match amounts(heap, &words[0..stroke])? {
-        Ok(numbers) => numbers,
-        Err(mistake) => return Ok(Err(mistake)),
-    };
-    let guesses = match amounts(heap, &words[stroke + 1..])? {
-        Ok(numbers) => numbers,
-        Err(mistake) => return Ok(Err(mistake)),
-    };
-    Ok(Ok(Asked::Propose { table, guesses }))
+    let stroke = first_stroke(words).ok_or(Mistake::NoStroke)?;
+    let table = amounts(heap, &words[..stroke])?;
+    let guesses = amounts(heap, &words[stroke + 1..])?;
+    Ok(Asked::Propose { table, guesses })
 }
 
-pub(crate) fn attempt<'a>(
-    heap: Global,
-    words: &[&'a str],
-) -> Result<Result<Asked, Mistake<'a>>, AllocError>
-    ensures { IfOk result (λ r. SaysTry (texts words.now) r) }
+pub(crate) fn attempt<'a>(heap: Global, words: &[&'a str]) -> Result<Asked, Unread<'a>>
+    ensures { Heard result (SaysTry (texts words.now)) }
 {
-    match amounts(heap, words)? {
-        Ok(numbers) => Ok(Ok(Asked::Try { numbers })),
-        Err(mistake) => Ok(Err(mistake)),
-    }
+    let numbers = amounts(heap, words)?;
+    Ok(Asked::Try { numbers })
 }
 
-// Where the first stroke stands; the count of the words where none does.
-fn first_stroke(words: &[&str]) -> usize
-    ensures within { result ≤ length words.now }
-    ensures before { (k : ℕ) → k < result → at (texts words.now) k ≢ codes "/" }
-    ensures found { result < length words.now → at (texts words.now) result ≡ codes "/" }
+fn first_stroke(words: &[&str]) -> Option<usize>
+    ensures { Stroke (texts words.now) result }
 {
-    for (i, word) in words.iter().enumerate() {
-        if *word == "/" {
-            return i;
-        }
-    }
-    words.len()
+    words.iter().position(|word| *word == "/")
 }
 
-fn amounts<'a>(heap: Global, words: &[&'a str]) -> Result<Result<Vec<i32>, Mistake<'a>>, AllocError>
-    ensures { IfOk result (λ r. Amounts (texts words.now) r (λ ns. Got vec_items ns r)) }
+fn amounts<'a>(heap: Global, words: &[&'a str]) -> Result<Vec<i32>, Unread<'a>>
+    ensures { Heard result (λ r. Amounts (texts words.now) r (λ ns. Got vec_items ns r)) }
 {
     let mut numbers = Vec::new(heap);
-    for (i, word) in words.iter().enumerate() {
-        match amount(word) {
-            Ok(n) => numbers.push(n)?,
-            Err(mistake) => return Ok(Err(mistake)),
-        }
+    for word in words {
+        numbers.push(amount(word)?)?;
     }
-    Ok(Ok(numbers))
+    Ok(numbers)
 }

@@ -3,5 +3,5 @@ use Rattle.asking.specs.Lines.{texts}
 use Rattle.asking.proofs.Amounts.{Sofar}
 use Rattle.asking.proofs.lists.amounts.Given as goal
 
-abbrev pub invariant-loop-i : goal.invariant-loop-i
-invariant-loop-i l = Sofar (texts l.words) (vec_items l.numbers) l.i
+abbrev pub invariant-loop-word : goal.invariant-loop-word
+invariant-loop-word l = Sofar (texts l.words) (vec_items l.numbers) l.word-index
