@@ -3,3 +3,4 @@ pub mod Stepped
 pub mod Boxed
 pub mod Ends
 pub mod Enclosures
+pub mod Sentences

@@ -4,6 +4,7 @@
 mod boxes;
 mod enclosure;
 mod fault;
+mod sentence;
 mod step;
 mod trial;
 

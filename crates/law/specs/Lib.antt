@@ -3,3 +3,4 @@ pub mod Calls
 pub mod History
 pub mod Decides
 pub mod Law
+pub mod Sentences

@@ -5,7 +5,7 @@ ghost use Rattle.law.specs.Faults.{number, layer, place};
 use span::{Layer, Spot};
 
 // Whose question got a no, with that fault as it came.
-#[derive(Clone, Copy)]
+#[derive(Clone, Copy, PartialEq, Eq, Debug)]
 pub enum Fault {
     // 1 to 5: the figures of the game
     Figures(system::Fault),

@@ -5,6 +5,7 @@ mod answer;
 mod ask;
 mod call;
 mod fault;
+mod sentence;
 
 pub use answer::Answer;
 pub use ask::{Ask, Reply};

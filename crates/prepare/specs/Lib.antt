@@ -4,3 +4,4 @@ pub mod Numbers
 pub mod Partial
 pub mod Proposals
 pub mod Rows
+pub mod Sentences

@@ -6,6 +6,7 @@ mod iteration;
 mod prepared;
 mod proposal;
 mod residual;
+mod sentence;
 mod sums;
 
 pub use fault::Fault;

@@ -3,3 +3,4 @@ pub mod Grids
 pub mod Lists
 pub mod Meaning
 pub mod Tallies
+pub mod Sentences

@@ -5,7 +5,7 @@ ghost use Rattle.source.specs.Faults.{number, layer, place};
 use crate::place::Place;
 use span::{Layer, Spot};
 
-#[derive(Clone, Copy)]
+#[derive(Clone, Copy, PartialEq, Eq, Debug)]
 pub enum Fault {
     // 20: a number of the place is out of range
     OutOfRange(Place),

@@ -6,6 +6,7 @@ mod fault;
 mod grid;
 mod list;
 mod place;
+mod sentence;
 mod source;
 mod sum;
 mod tally;

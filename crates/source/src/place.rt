@@ -7,7 +7,7 @@ use span::Spot;
 
 // A coefficient's place: parts go from 0 to 8, rows and columns from 0 to 11. Places of one kind are
 // the same exactly when all numbers are equal.
-#[derive(Clone, Copy)]
+#[derive(Clone, Copy, PartialEq, Eq, Debug)]
 pub enum Place {
     Matrix {
         part: usize,

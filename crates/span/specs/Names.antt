@@ -1,7 +1,8 @@
--- what layers and operations are called
-use Rattle.std.specs.Prelude.{ℕ, List, codes}
+-- what layers, operations and spots are called
+use Rattle.std.specs.Prelude.{ℕ, List, ◌++◌, codes, decimal}
 use Rattle.span.specs.declared.fault.Layer.{Layer}
 use Rattle.span.specs.declared.fault.Layer.TheVariants.{Span, Source, Docket, Sheet}
+use Rattle.span.specs.declared.fault.Spot.{Spot}
 use Rattle.span.specs.declared.fault.Operation.{Operation}
 use Rattle.span.specs.declared.fault.Operation.TheVariants.{Sum, Difference, Product}
 
@@ -15,3 +16,6 @@ abbrev pub operation_name : Operation → List ℕ
 operation_name Sum = codes "sum"
 operation_name Difference = codes "difference"
 operation_name Product = codes "product"
+
+abbrev pub spot_name : Spot → List ℕ
+spot_name s = codes "part " ++ (decimal s.part ++ (codes ", row " ++ (decimal s.row ++ (codes ", column " ++ decimal s.column))))

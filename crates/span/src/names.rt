@@ -1,8 +1,8 @@
-// What layers and operations are called.
+// What layers, operations and spots are called.
 ghost use Rattle.std.specs.Prelude.{Some};
-ghost use Rattle.span.specs.Names.{layer_name, operation_name};
+ghost use Rattle.span.specs.Names.{layer_name, operation_name, spot_name};
 
-use crate::fault::{Layer, Operation};
+use crate::fault::{Layer, Operation, Spot};
 use std::fmt;
 
 impl fmt::Display for Layer {
@@ -27,5 +27,14 @@ impl fmt::Display for Operation {
             Operation::Difference => write!(f, "difference"),
             Operation::Product => write!(f, "product"),
         }
+    }
+}
+
+impl fmt::Display for Spot {
+    ghost output = { λ s. Some (spot_name s) };
+
+    fn fmt<W: fmt::Write>(&self, f: &mut fmt::Formatter<W>) -> fmt::Result {
+        let Spot { part, row, column } = self;
+        write!(f, "part {part}, row {row}, column {column}")
     }
 }

@@ -2,6 +2,7 @@
 #![tactic(auto)]
 
 mod fault;
+mod sentence;
 mod system;
 
 pub use fault::Fault;
