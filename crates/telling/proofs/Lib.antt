@@ -1,2 +1,1 @@
-mod Worded
 mod Rows

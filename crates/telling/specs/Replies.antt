@@ -2,6 +2,7 @@
 use Rattle.std.specs.Prelude.{ℕ, List, [], ◌∷◌, ◌++◌, Some, None, Ok, Err, codes, decimal, Option, Result}
 use Rattle.std.specs.Fmt.{signed_decimal}
 use Rattle.span.specs.declared.span.Span.{Span}
+use Rattle.span.specs.Names.{layer_name}
 use Rattle.law.specs.declared.answer.Answer.{Answer}
 use Rattle.law.specs.declared.answer.Answer.TheVariants.{Done, Trial}
 use Rattle.law.specs.declared.ask.Reply.{Reply}
@@ -9,11 +10,11 @@ use Rattle.law.specs.declared.ask.Reply.TheVariants.{Made, Told}
 use Rattle.law.specs.declared.fault.Fault.{Fault}
 use Rattle.law.specs.Faults.{number, layer, place}
 use Rattle.wording.specs.Wording as wording
-use Rattle.telling.specs.Sentences.{why_text}
+use Rattle.law.specs.Sentences.{sentence}
 
 -- bare
 abbrev pub bare_refusal : Fault → List ℕ
-bare_refusal f = codes "no " ++ (decimal (number f) ++ (codes " " ++ (wording.layer_text (layer f) ++ (codes " " ++ (decimal (place f).part ++ (codes " " ++ (decimal (place f).row ++ (codes " " ++ decimal (place f).column))))))))
+bare_refusal f = codes "no " ++ (decimal (number f) ++ (codes " " ++ (layer_name (layer f) ++ (codes " " ++ (decimal (place f).part ++ (codes " " ++ (decimal (place f).row ++ (codes " " ++ decimal (place f).column))))))))
 
 abbrev pub ends_text : Span → List ℕ
 ends_text s = codes " " ++ (signed_decimal s.low ++ (codes " " ++ signed_decimal s.high))
@@ -56,7 +57,7 @@ table_text (r ∷ rs) = begun (range_of r) (bare_text r) (codes "ok" ++ rows_tex
 
 -- for people
 abbrev pub refusal_text : Fault → List ℕ
-refusal_text f = codes "turned down, " ++ (decimal (number f) ++ (codes " (" ++ (wording.layer_text (layer f) ++ (codes "): " ++ why_text f))))
+refusal_text f = codes "turned down, " ++ (decimal (number f) ++ (codes " (" ++ (layer_name (layer f) ++ (codes "): " ++ sentence f))))
 
 abbrev pub told_answer : Answer → List ℕ
 told_answer Done = codes "done"

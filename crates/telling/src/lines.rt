@@ -1,10 +1,9 @@
 // Replies in bare lines, for other programs.
 ghost use Rattle.std.specs.Prelude.{◌≡◌, ◌++◌, IfOk, string_bytes, codes};
-ghost use Rattle.wording.specs.Wording.{layer_text};
 ghost use Rattle.telling.specs.Replies.{bare_answer, bare_refusal, bare_row, bare_text, ends_text, range_of, rows_text, table_text};
 
 use law::{Answer, Fault, Reply};
-use span::{Layer, Span};
+use span::{Span, Spot};
 use std::alloc::{AllocError, Global};
 
 pub fn bare(heap: Global, reply: &Reply) -> Result<String, AllocError>
@@ -58,8 +57,9 @@ fn rows_line(heap: Global, rows: &[Reply]) -> Result<String, AllocError>
         let Some(range) = range_of(row) else {
             return Ok(line);
         };
-        let ends = ends(heap, &range)?;
-        line.push_str(ends.as_str())?;
+        let low = range.low();
+        let high = range.high();
+        write!(line, " {low} {high}")?;
     }
     Ok(line)
 }
@@ -73,33 +73,11 @@ fn range_of(reply: &Reply) -> Option<Span>
     }
 }
 
-fn ends(heap: Global, range: &Span) -> Result<String, AllocError>
-    ensures { IfOk result (λ s. string_bytes s ≡ ends_text range.now) }
-{
-    let low = range.low();
-    let high = range.high();
-    format!(in heap; " {low} {high}")
-}
-
 fn refusal(heap: Global, fault: &Fault) -> Result<String, AllocError>
     ensures { IfOk result (λ s. string_bytes s ≡ bare_refusal fault.now) }
 {
     let number = fault.number();
-    let layer = layer_name(fault.layer());
-    let place = fault.place();
-    let part = place.part;
-    let row = place.row;
-    let column = place.column;
+    let layer = fault.layer();
+    let Spot { part, row, column } = fault.place();
     format!(in heap; "no {number} {layer} {part} {row} {column}")
-}
-
-pub(crate) fn layer_name(layer: Layer) -> &'static str
-    ensures { result.now ≡ layer_text layer }
-{
-    match layer {
-        Layer::Span => "span",
-        Layer::Source => "source",
-        Layer::Docket => "docket",
-        Layer::Sheet => "sheet",
-    }
 }

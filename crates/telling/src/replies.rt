@@ -1,14 +1,11 @@
 // Replies for people.
 ghost use Rattle.std.specs.Prelude.{◌≡◌, IfOk, string_bytes};
-ghost use Rattle.wording.specs.Wording.{range_text};
 ghost use Rattle.telling.specs.Replies.{refusal_text, told_answer, told_row, told_text};
 
-use crate::lines::layer_name;
-use crate::sentences::why;
 use law::{Answer, Fault, Reply};
 use span::Span;
 use std::alloc::{AllocError, Global};
-use wording::grouped;
+use wording::told_range;
 
 pub fn told(heap: Global, reply: &Reply) -> Result<String, AllocError>
     ensures { IfOk result (λ s. string_bytes s ≡ told_text reply.now) }
@@ -42,15 +39,6 @@ fn refusal(heap: Global, fault: &Fault) -> Result<String, AllocError>
     ensures { IfOk result (λ s. string_bytes s ≡ refusal_text fault.now) }
 {
     let number = fault.number();
-    let layer = layer_name(fault.layer());
-    let why = why(heap, fault)?;
-    format!(in heap; "turned down, {number} ({layer}): {why}")
-}
-
-fn told_range(heap: Global, low: i64, high: i64) -> Result<String, AllocError>
-    ensures { IfOk result (λ s. string_bytes s ≡ range_text low high) }
-{
-    let low = grouped(heap, low)?;
-    let high = grouped(heap, high)?;
-    format!(in heap; "{low}..{high}")
+    let layer = fault.layer();
+    format!(in heap; "turned down, {number} ({layer}): {fault}")
 }

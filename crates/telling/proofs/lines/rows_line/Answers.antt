@@ -1,5 +1,4 @@
-use Rattle.std.proofs.Common.{◌++◌, is_ok, string_bytes, ap, ◌∙◌}
-use Rattle.std.proofs.ResultArms.{chosen}
+use Rattle.std.proofs.Common.{string_bytes, ap, ◌∙◌, rules}
 use Rattle.telling.specs.Replies.{range_of}
 use Rattle.telling.proofs.Rows.{all_told, one_more, stopped}
 use Rattle.telling.proofs.lines.rows_line.Goals as goal
@@ -9,9 +8,7 @@ returns-in_default c = stopped c.args.rows.now c.loop-row.row-index (string_byte
 
 pub loop-row-preserved : goal.loop-row-preserved
 loop-row-preserved c =
-    let put = chosen _ _ _ _ c.push_str.ensures.bytes (ap is_ok c.in_ok-push_str.was) in
-    let ends = c.as_str.ensures.value ∙ c.in_ok-ends.ensures in
-    one_more c.args.rows.now c.loop-row.row-index (string_bytes c.loop-row.line) c.loop-row.invariant c.row-item.result c.loop-row-test.true (c.range_of.ensures ∙ ap range_of c.row-item.is) c.in-Some.range c.in-Some.is (put ∙ ap (λ l. string_bytes c.loop-row.line ++ l) ends)
+    one_more c.args.rows.now c.loop-row.row-index (string_bytes c.loop-row.line) c.loop-row.invariant c.row-item.result c.loop-row-test.true (c.range_of.ensures ∙ ap range_of c.row-item.is) c.in-Some.range c.in-Some.is (search rules)
 
 pub returns : goal.returns
 returns c = all_told c.args.rows.now c.loop-row.row-index (string_bytes c.loop-row.line) c.loop-row.invariant c.loop-row-test.false
