@@ -64,7 +64,7 @@ ReadAs words q = Amounts words q (λ ns. Got vec_items ns q)
 -- where a list is not read, nor is what it stands in
 pub unheard : (R : Result Asked Mistake → Type 0) (words : List (List ℕ)) (u : Unread) → ((e : Mistake) → Amounts {T = Vec ℤ Global} words (Err e) (λ ns. ⊥) → R (Err e)) → Heard {T = Vec ℤ Global} (Err u) (ReadAs words) → Heard (Err u) R
 unheard R words (Mistaken m) f h = f m h
-unheard R words OutOfMemory f h = h
+unheard R words (OutOfMemory e) f h = h
 
 -- a word borrowed at a place
 no_word : Bor (List ℕ)

@@ -25,7 +25,7 @@ at words i = slice_index_or words i []
 abbrev pub Heard : {T : Type 0} → Result T Unread → (Result T Mistake → Type 0) → Type 0
 Heard (Ok x) P = P (Ok x)
 Heard (Err (Mistaken m)) P = P (Err m)
-Heard (Err OutOfMemory) P = Unit {0}
+Heard (Err (OutOfMemory e)) P = Unit {0}
 
 -- where k words were given P holds, else the count is told
 pub record Counted (kind : Kind) (k : ℕ) (words : List (List ℕ)) (r : Result Asked Mistake) (P : Type 0) : Type 0 where

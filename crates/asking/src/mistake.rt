@@ -1,5 +1,5 @@
 // What is wrong with a line that asks nothing.
-ghost use Rattle.std.specs.Prelude.{◌≡◌, Some};
+ghost use Rattle.std.specs.Prelude.{◌≡◌, Some, alloc_error};
 ghost use Rattle.asking.specs.declared.mistake.Unread.TheVariants.{Mistaken, OutOfMemory};
 ghost use Rattle.asking.specs.Usages.{usage_text};
 
@@ -73,7 +73,7 @@ fn usage(kind: Kind) -> &'static str
 #[derive(Clone, Copy, Debug)]
 pub enum Unread<'a> {
     Mistaken(Mistake<'a>),
-    OutOfMemory,
+    OutOfMemory(AllocError),
 }
 
 impl<'a> From<Mistake<'a>> for Unread<'a> {
@@ -85,17 +85,17 @@ impl<'a> From<Mistake<'a>> for Unread<'a> {
 }
 
 impl From<AllocError> for Unread<'_> {
-    ghost from_gives = { λ _ u. u ≡ OutOfMemory };
+    ghost from_gives = { λ e u. u ≡ OutOfMemory e };
 
-    fn from(_error: AllocError) -> Self {
-        Unread::OutOfMemory
+    fn from(error: AllocError) -> Self {
+        Unread::OutOfMemory(error)
     }
 }
 
 impl<T: Drop> From<AllocFailed<T>> for Unread<'_> {
-    ghost from_gives = { λ _ u. u ≡ OutOfMemory };
+    ghost from_gives = { λ _ u. u ≡ OutOfMemory alloc_error };
 
-    fn from(_failed: AllocFailed<T>) -> Self {
-        Unread::OutOfMemory
+    fn from(failed: AllocFailed<T>) -> Self {
+        Unread::OutOfMemory(AllocError::from(failed))
     }
 }

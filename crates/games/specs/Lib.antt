@@ -1,4 +1,3 @@
-pub mod Measures
 pub mod Tallies
 pub mod Stores
 pub mod Steps

@@ -2,10 +2,10 @@
 use Rattle.std.specs.Prelude.{◌≡◌, ℕ, List, [], ◌∷◌, ◌++◌, Ok, Err, string_bytes}
 use Rattle.script.specs.declared.mistake.Mistake as script
 use Rattle.script.specs.Reading.{Read}
-use Rattle.wording.specs.Wording as wording
+use Rattle.script.specs.Mistakes as scripts
 use Rattle.asking.specs.declared.mistake.Mistake as asking
 use Rattle.asking.specs.Lines.{Line}
-use Rattle.telling.specs.Mistakes as telling
+use Rattle.asking.specs.Mistakes as askings
 use Rattle.games.specs.Puts as puts
 use Rattle.games.specs.Puts.{first_puts, posed_count, posed_puts}
 use Rattle.games.specs.declared.posed.Posed.TheVariants.{Game, Write, Check}
@@ -15,14 +15,14 @@ use Rattle.games.specs.declared.step.Step.TheVariants.{NoCall, Bad, Pure, Put}
 -- a line of figures is its call, or what is wrong with it
 abbrev pub Computes : List ℕ → List (List ℕ) → Step → Type 0
 Computes name ws NoCall = ⊥
-Computes name ws (Bad what) = (m : script.Mistake) × Read name ws (Err m) × (string_bytes what ≡ wording.mistake_text m)
+Computes name ws (Bad what) = (m : script.Mistake) × Read name ws (Err m) × (string_bytes what ≡ scripts.mistake_text m)
 Computes name ws (Pure call) = Read name ws (Ok call)
 Computes name ws (Put p) = ⊥
 
 -- and so is a line that asks of a docket
 abbrev pub Asks : List ℕ → List (List ℕ) → Step → Type 0
 Asks name ws NoCall = ⊥
-Asks name ws (Bad what) = (m : asking.Mistake) × Line name ws (Err m) × (string_bytes what ≡ telling.mistake_text m)
+Asks name ws (Bad what) = (m : asking.Mistake) × Line name ws (Err m) × (string_bytes what ≡ askings.mistake_text m)
 Asks name ws (Pure call) = ⊥
 Asks name ws (Put (Game a)) = Line name ws (Ok a)
 Asks name ws (Put (Write l)) = ⊥

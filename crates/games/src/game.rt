@@ -65,9 +65,5 @@ fn entries<P: Copy + Drop>(
 ) -> Result<Vec<Entry<P>>, AllocError>
     ensures { IfOk result (λ v. length v.items ≡ count) }
 {
-    let mut entries = Vec::new(heap);
-    for _ in 0..count {
-        entries.push(Entry { place, sum: 0 })?;
-    }
-    Ok(entries)
+    vec![in heap; Entry { place, sum: 0 }; count]
 }

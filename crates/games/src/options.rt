@@ -1,6 +1,6 @@
 // What the words of the command line, and of an input's first line, ask for.
-use crate::measure::Measure;
 use crate::store::Store;
+use span::Measure;
 use std::alloc::{AllocError, AllocFailed, Global};
 use std::env::Args;
 use std::fmt;
@@ -21,9 +21,9 @@ pub struct Choices {
     pub store: Option<Store>,
 }
 
-// An option whose value comes in the next word.
+// An option whose value is the next word.
 #[derive(Clone, Copy)]
-pub enum Wanted {
+pub enum Valued {
     Scale,
     Source,
 }
@@ -50,22 +50,16 @@ impl Settings {
             choices: Choices::none(),
             files: Vec::new(heap),
         };
-        let mut wanted = None;
-        for word in words.skip(1) {
-            match wanted {
+        let mut words = words.skip(1);
+        while let Some(word) = words.next() {
+            match Valued::named(word.as_str()) {
                 Some(option) => {
-                    settings.choices = settings.choices.with(heap, option, word.as_str())?;
-                    wanted = None;
+                    let value = words.next().ok_or(option.without_value())?;
+                    settings.choices = settings.choices.with(heap, option, value.as_str())?;
                 }
-                None => {
-                    wanted = Wanted::named(word.as_str());
-                    if wanted.is_none() {
-                        settings.take(word)?;
-                    }
-                }
+                None => settings.take(word)?,
             }
         }
-        nothing_wanted(wanted)?;
         Ok(settings)
     }
 
@@ -84,12 +78,19 @@ impl Settings {
     }
 }
 
-impl Wanted {
-    fn named(word: &str) -> Option<Wanted> {
+impl Valued {
+    fn named(word: &str) -> Option<Valued> {
         match word {
-            "--scale" => Some(Wanted::Scale),
-            "--source" => Some(Wanted::Source),
+            "--scale" => Some(Valued::Scale),
+            "--source" => Some(Valued::Source),
             _ => None,
+        }
+    }
+
+    fn without_value(self) -> Misuse {
+        match self {
+            Valued::Scale => Misuse::NoScale,
+            Valued::Source => Misuse::NoSource,
         }
     }
 }
@@ -102,15 +103,15 @@ impl Choices {
         }
     }
 
-    fn with(self, heap: Global, option: Wanted, word: &str) -> Result<Choices, Misuse> {
+    fn with(self, heap: Global, option: Valued, word: &str) -> Result<Choices, Misuse> {
         match option {
-            Wanted::Scale => Ok(Choices {
+            Valued::Scale => Ok(Choices {
                 measure: self.measure.or(Some(scale(heap, word)?)),
-                store: self.store,
+                ..self
             }),
-            Wanted::Source => Ok(Choices {
-                measure: self.measure,
+            Valued::Source => Ok(Choices {
                 store: self.store.or(Some(source(heap, word)?)),
+                ..self
             }),
         }
     }
@@ -129,44 +130,28 @@ pub(crate) fn first_line(heap: Global, line: &[u8]) -> Result<Choices, Misuse> {
 
 fn file_choices(heap: Global, words: &str) -> Result<Choices, Misuse> {
     let mut choices = Choices::none();
-    let mut wanted = None;
-    for word in words.split_whitespace() {
-        match wanted {
-            Some(option) => {
-                choices = choices.with(heap, option, word)?;
-                wanted = None;
-            }
-            None => {
-                wanted = Wanted::named(word);
-                if wanted.is_none() {
-                    return Err(Misuse::NotForFiles(String::from_str(heap, word)?));
-                }
-            }
-        }
+    let mut words = words.split_whitespace();
+    while let Some(word) = words.next() {
+        let Some(option) = Valued::named(word) else {
+            return Err(Misuse::NotForFiles(String::from_str(heap, word)?));
+        };
+        let value = words.next().ok_or(option.without_value())?;
+        choices = choices.with(heap, option, value)?;
     }
-    nothing_wanted(wanted)?;
     Ok(choices)
 }
 
-fn nothing_wanted(wanted: Option<Wanted>) -> Result<(), Misuse> {
-    match wanted {
-        None => Ok(()),
-        Some(Wanted::Scale) => Err(Misuse::NoScale),
-        Some(Wanted::Source) => Err(Misuse::NoSource),
-    }
-}
-
 fn scale(heap: Global, word: &str) -> Result<Measure, Misuse> {
-    match Measure::named(word) {
-        Some(measure) => Ok(measure),
-        None => Err(Misuse::UnknownScale(String::from_str(heap, word)?)),
+    match word.parse() {
+        Ok(measure) => Ok(measure),
+        Err(_) => Err(Misuse::UnknownScale(String::from_str(heap, word)?)),
     }
 }
 
 fn source(heap: Global, word: &str) -> Result<Store, Misuse> {
-    match Store::read(word) {
-        Some(store) => Ok(store),
-        None => Err(Misuse::UnknownSource(String::from_str(heap, word)?)),
+    match word.parse() {
+        Ok(store) => Ok(store),
+        Err(_) => Err(Misuse::UnknownSource(String::from_str(heap, word)?)),
     }
 }
 

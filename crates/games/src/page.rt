@@ -1,139 +1,183 @@
-// One input done: its heading, and a line for each call or run of calls.
-ghost use Rattle.std.specs.Prelude.{◌≡◌, ◌+◌, ◌≤◌, length, take, drop};
+// The page that is printed: for each input a heading, and a line for each call or run of calls.
+ghost use Rattle.std.specs.Prelude.{◌≡◌, ◌≤◌, length, take, drop};
 
 use crate::game::outcomes;
-use crate::measure::Measure;
-use crate::options::{Settings, first_line};
+use crate::options::{Choices, Settings, first_line};
 use crate::step::{Step, puts, steps};
 use crate::store::{Make, Store};
 use crate::tally::{Game, Tally};
 use crate::teller::Teller;
 use filing::Outcome;
-use span::{Binary, Millionths, Scale};
-use std::io;
+use span::{Binary, Measure, Millionths, Scale};
+use std::alloc::Global;
+use std::io::{BufRead, BufReader, Read};
+use std::{fs, io};
 use wording::grouped;
 
-// Does the calls of one input, whose lines were read.
-pub(crate) fn input(
-    rt: &HostRuntime,
-    settings: &Settings,
-    name: &str,
-    lines: &[Vec<u8>],
-    tally: &mut Tally,
-) -> io::Result<()> {
-    let given = match lines.first() {
-        Some(line) => first_line(rt.alloc(), line.as_slice()),
-        None => first_line(rt.alloc(), b""),
-    };
-    match given {
-        Ok(given) => {
-            let measure = settings.choices.measure.or(given.measure);
-            let measure = measure.unwrap_or(Measure::Millionths);
-            let store = settings.choices.store.or(given.store);
-            let store = store.unwrap_or(Store::ample(Make::Grid));
-            let game = page(rt, settings.answers, name, measure, store, lines, tally)?;
-            tally.close(game);
-            Ok(())
-        }
-        Err(misuse) => {
-            tally.clean = false;
-            eprintln!(rt; "worth: {name}, line 1: {misuse}")
-        }
-    }
+#[derive(Drop)]
+pub struct Page<'a> {
+    rt: &'a HostRuntime,
+    settings: &'a Settings,
+    tally: Tally,
 }
 
-fn page(
-    rt: &HostRuntime,
-    answers: bool,
-    name: &str,
-    measure: Measure,
-    store: Store,
-    lines: &[Vec<u8>],
-    tally: &mut Tally,
-) -> io::Result<Game> {
-    if !answers {
-        let scale = measure.name();
-        let source = store.make.name();
-        println!(rt; "{name}: {scale}, {source}")?;
-    }
-    let steps = steps(rt.alloc(), lines)?;
-    match measure {
-        Measure::Millionths => {
-            done::<Millionths, Binary>(rt, answers, store, lines, steps.as_slice(), tally)
-        }
-        Measure::Binary => {
-            done::<Binary, Millionths>(rt, answers, store, lines, steps.as_slice(), tally)
+impl<'a> Page<'a> {
+    pub(crate) fn new(rt: &'a HostRuntime, settings: &'a Settings) -> Page<'a> {
+        Page {
+            rt,
+            settings,
+            tally: Tally::new(),
         }
     }
-}
 
-// T is the docket's scale, F the other one.
-fn done<T: Scale + Drop, F: Scale>(
-    rt: &HostRuntime,
-    answers: bool,
-    store: Store,
-    lines: &[Vec<u8>],
-    steps: &[Step],
-    tally: &mut Tally,
-) -> io::Result<Game> {
-    let puts = puts(rt.alloc(), steps)?;
-    let outcomes = outcomes::<T, F>(rt.alloc(), store, puts.as_slice())?;
-    let outcomes = outcomes.as_slice();
-    let mut teller = Teller::new(answers);
-    let mut next = 0;
-    for (i, step) in steps.iter().enumerate() {
-        let line = match lines.get(i) {
-            Some(line) => line.as_slice(),
-            None => b"",
+    // Answers the calls of standard input.
+    pub(crate) fn standard_input(&mut self) -> io::Result<()> {
+        let read = lines(self.rt.alloc(), self.rt.stdin());
+        self.input("standard input", read)
+    }
+
+    // Answers the calls of a file.
+    pub(crate) fn file(&mut self, path: &str) -> io::Result<()> {
+        let read = read_file(self.rt, path);
+        self.input(path, read)
+    }
+
+    fn input(&mut self, name: &str, read: io::Result<Vec<Vec<u8>>>) -> io::Result<()> {
+        match read {
+            Ok(lines) => self.lines(name, lines.as_slice()),
+            Err(error) => {
+                self.tally.clean = false;
+                eprintln!(self.rt;
+                    "worth: {name} cannot be read ({error}); expected a file of calls"
+                )
+            }
+        }
+    }
+
+    fn lines(&mut self, name: &str, lines: &[Vec<u8>]) -> io::Result<()> {
+        let given = match lines.first() {
+            Some(line) => first_line(self.rt.alloc(), line.as_slice()),
+            None => Ok(Choices::none()),
         };
-        let number = i + 1;
-        match step {
-            Step::NoCall => {}
-            Step::Bad(what) => teller.bad(rt, number, what.as_str())?,
-            Step::Pure(call) => {
-                let found = call.answer::<T>();
-                tally.count(&found);
-                teller.pure(rt, number, line, &found)?;
+        match given {
+            Ok(given) => {
+                let game = self.chosen(name, given, lines)?;
+                self.tally.close(game);
+                Ok(())
             }
-            Step::Put(posed) => {
-                let here = part(outcomes, next, posed.count());
-                next = next.saturating_add(posed.count());
-                teller.put(rt, number, line, posed, here)?;
+            Err(misuse) => {
+                self.tally.clean = false;
+                eprintln!(self.rt; "worth: {name}, line 1: {misuse}")
             }
         }
     }
-    teller.end(rt)
-}
 
-// So many outcomes from the next on; none where there are fewer.
-fn part(outcomes: &[Outcome], next: usize, count: usize) -> &[Outcome]
-    ensures { next + count ≤ length outcomes.now → result.now ≡ take count (drop next outcomes.now) }
-{
-    if next <= outcomes.len() && count <= outcomes.len() - next {
-        &outcomes[next..next + count]
-    } else {
-        &outcomes[0..0]
+    // The scale and the source that were chosen, by the command line before the input's own.
+    fn chosen(&mut self, name: &str, given: Choices, lines: &[Vec<u8>]) -> io::Result<Game> {
+        let measure = self.settings.choices.measure.or(given.measure);
+        let measure = measure.unwrap_or(Measure::Millionths);
+        let store = self.settings.choices.store.or(given.store);
+        let store = store.unwrap_or(Store::ample(Make::Grid));
+        if !self.settings.answers {
+            let source = store.make;
+            println!(self.rt; "{name}: {measure}, {source}")?;
+        }
+        match measure {
+            Measure::Millionths => self.calls::<Millionths, Binary>(store, lines),
+            Measure::Binary => self.calls::<Binary, Millionths>(store, lines),
+        }
     }
-}
 
-// The last lines: where rows were looked at, and where games were done of several files.
-pub(crate) fn last(rt: &HostRuntime, several: bool, tally: &Tally) -> io::Result<()> {
-    if tally.rows > 0 {
-        let count = grouped(rt.alloc(), tally.rows)?;
-        let moved = grouped(rt.alloc(), tally.moved)?;
-        let rows = if tally.rows == 1 { "row" } else { "rows" };
-        println!(rt; "{count} {rows} looked at, {moved} had moved")?;
+    // T is the docket's scale, F the other one.
+    fn calls<T: Scale + Drop, F: Scale>(
+        &mut self,
+        store: Store,
+        lines: &[Vec<u8>],
+    ) -> io::Result<Game> {
+        let heap = self.rt.alloc();
+        let steps = steps(heap, lines)?;
+        let puts = puts(heap, steps.as_slice())?;
+        let outcomes = outcomes::<T, F>(heap, store, puts.as_slice())?;
+        let mut left = outcomes.as_slice();
+        let mut teller = Teller::new(self.rt, self.settings.answers);
+        for (line, step) in lines.iter().zip(steps.as_slice()) {
+            teller.next_line(line.as_slice());
+            match step {
+                Step::NoCall => {}
+                Step::Bad(what) => teller.bad(what.as_str())?,
+                Step::Pure(call) => {
+                    let found = call.answer::<T>();
+                    self.tally.count(&found);
+                    teller.pure(&found)?;
+                }
+                Step::Put(posed) => {
+                    let (here, others) = parted(left, posed.count());
+                    teller.put(posed, here)?;
+                    left = others;
+                }
+            }
+        }
+        teller.end()
     }
-    if several && tally.games > 0 {
-        let tables = grouped(rt.alloc(), tally.tables)?;
-        let refused = grouped(rt.alloc(), tally.refused)?;
-        let have = if tally.tables == 1 {
+
+    // The last lines, where rows were looked at, and where games were done of several files; whether
+    // everything asked for was done.
+    pub(crate) fn end(&self) -> io::Result<bool> {
+        if !self.settings.answers {
+            self.rows()?;
+            self.games()?;
+        }
+        Ok(self.tally.clean)
+    }
+
+    fn rows(&self) -> io::Result<()> {
+        let rows = self.tally.rows;
+        if rows.looked_at == 0 {
+            return Ok(());
+        }
+        let count = grouped(self.rt.alloc(), rows.looked_at)?;
+        let moved = grouped(self.rt.alloc(), rows.moved)?;
+        let noun = if rows.looked_at == 1 { "row" } else { "rows" };
+        println!(self.rt; "{count} {noun} looked at, {moved} had moved")
+    }
+
+    fn games(&self) -> io::Result<()> {
+        if self.settings.files.len() <= 1 || self.tally.games == 0 {
+            return Ok(());
+        }
+        let tables = grouped(self.rt.alloc(), self.tally.tables)?;
+        let refused = grouped(self.rt.alloc(), self.tally.refused)?;
+        let have = if self.tally.tables == 1 {
             "game has"
         } else {
             "games have"
         };
-        let were = if tally.refused == 1 { "was" } else { "were" };
-        println!(rt; "{tables} {have} a table, {refused} {were} turned down")?;
+        let were = if self.tally.refused == 1 {
+            "was"
+        } else {
+            "were"
+        };
+        println!(self.rt; "{tables} {have} a table, {refused} {were} turned down")
     }
-    Ok(())
+}
+
+// So many outcomes and the others; none and all where there are fewer.
+fn parted(outcomes: &[Outcome], count: usize) -> (&[Outcome], &[Outcome])
+    ensures { count ≤ length outcomes.now → (result.0.now ≡ take count outcomes.now) × (result.1.now ≡ drop count outcomes.now) }
+{
+    if count <= outcomes.len() {
+        outcomes.split_at(count)
+    } else {
+        outcomes.split_at(0)
+    }
+}
+
+fn read_file(rt: &HostRuntime, path: &str) -> io::Result<Vec<Vec<u8>>> {
+    lines(rt.alloc(), fs::open(rt, path)?)
+}
+
+fn lines<R: Read + Drop>(heap: Global, source: R) -> io::Result<Vec<Vec<u8>>> {
+    BufReader::new(heap, source)?
+        .split(heap, b'\n')
+        .try_collect(heap)
 }

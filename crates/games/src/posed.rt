@@ -49,8 +49,5 @@ impl Posed {
 fn buffer(room: Option<usize>) -> usize
     ensures { result ≡ room_of room }
 {
-    match room {
-        Some(room) => room,
-        None => LONGEST,
-    }
+    room.unwrap_or(LONGEST)
 }

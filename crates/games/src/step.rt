@@ -5,10 +5,10 @@ ghost use Rattle.games.specs.Steps.{Asks, Computes, all_puts};
 ghost use Rattle.games.specs.Puts.{put};
 
 use crate::posed::Posed;
+use asking::Unread;
 use script::Call;
 use std::alloc::{AllocError, Global};
 use std::str::from_utf8;
-use telling::mistaken;
 
 #[derive(Drop)]
 pub enum Step {
@@ -37,9 +37,9 @@ impl Step {
             return Ok(Step::NoCall);
         };
         let numbers: Vec<&str> = words.collect(heap)?;
-        match script::Kind::named(name) {
-            Some(_) => pure(heap, name, numbers.as_slice()),
-            None => ask(heap, name, numbers.as_slice()),
+        match name.parse::<script::Kind>() {
+            Ok(_) => pure(heap, name, numbers.as_slice()),
+            Err(_) => ask(heap, name, numbers.as_slice()),
         }
     }
 }
@@ -53,26 +53,26 @@ fn pure<'a>(heap: Global, name: &'a str, numbers: &[&'a str]) -> Result<Step, Al
 {
     match script::read(name, numbers) {
         Ok(call) => Ok(Step::Pure(call)),
-        Err(mistake) => Ok(Step::Bad(wording::mistaken(heap, &mistake)?)),
+        Err(mistake) => Ok(Step::Bad(mistake.to_string(heap)?)),
     }
 }
 
 fn ask<'a>(heap: Global, name: &'a str, numbers: &[&'a str]) -> Result<Step, AllocError>
     ensures { IfOk result (λ step. Asks name.now (texts numbers.now) step) }
 {
-    match asking::read(heap, name, numbers)? {
+    match asking::read(heap, name, numbers) {
         Ok(asked) => Ok(Step::Put(Posed::Game(asked))),
-        Err(mistake) => Ok(Step::Bad(mistaken(heap, &mistake)?)),
+        Err(Unread::Mistaken(mistake)) => Ok(Step::Bad(mistake.to_string(heap)?)),
+        Err(Unread::OutOfMemory(error)) => Err(error),
     }
 }
 
 // The steps of an input, one for each line.
 pub(crate) fn steps(heap: Global, lines: &[Vec<u8>]) -> Result<Vec<Step>, AllocError> {
-    let mut steps = Vec::new(heap);
-    for line in lines {
-        steps.push(Step::of(heap, line.as_slice())?)?;
-    }
-    Ok(steps)
+    lines
+        .iter()
+        .map(|line| Step::of(heap, line.as_slice()))
+        .try_collect(heap)
 }
 
 // All that the steps put to one run, in order.

@@ -1,7 +1,9 @@
 // Where a docket keeps its coefficients: which source, and how much room it has.
-ghost use Rattle.std.specs.Prelude.{◌≡◌, ◌≤◌, IfSome, MatchOption, ◌≢◌};
-ghost use Rattle.games.specs.declared.store.Make.{Make};
-ghost use Rattle.games.specs.Stores.{Roomy, ample, make_name};
+ghost use Rattle.std.specs.Prelude.{◌≡◌, ◌≤◌, IfOk, Some};
+ghost use Rattle.games.specs.Stores.{IsNamed, Roomy, ample, make_name};
+
+use std::fmt;
+use std::str::FromStr;
 
 #[derive(Clone, Copy, PartialEq, Eq, Debug)]
 pub enum Make {
@@ -9,25 +11,32 @@ pub enum Make {
     List,
 }
 
-impl Make {
-    // The make that has this name, if one has.
-    pub fn named(word: &str) -> Option<Make>
-        ensures { MatchOption result ((m : Make) → word.now ≢ make_name m) (λ m. word.now ≡ make_name m) }
-    {
+// The word names no source, or more room than one may have.
+#[derive(Clone, Copy, PartialEq, Eq, Debug)]
+pub struct NoStore;
+
+impl FromStr for Make {
+    type Err = NoStore;
+
+    ghost from_str_gives = { IsNamed };
+
+    fn from_str(word: &str) -> Result<Make, NoStore> {
         match word {
-            "grid" => Some(Make::Grid),
-            "list" => Some(Make::List),
-            _ => None,
+            "grid" => Ok(Make::Grid),
+            "list" => Ok(Make::List),
+            _ => Err(NoStore),
         }
     }
+}
 
-    pub fn name(self) -> &'static str
-        ensures { result.now ≡ make_name self }
-    {
-        match self {
+impl fmt::Display for Make {
+    ghost output = { λ m. Some (make_name m) };
+
+    fn fmt<W: fmt::Write>(&self, f: &mut fmt::Formatter<W>) -> fmt::Result {
+        f.write_str(match self {
             Make::Grid => "grid",
             Make::List => "list",
-        }
+        })
     }
 }
 
@@ -53,32 +62,38 @@ impl Store {
             payout: 108,
         }
     }
+}
 
-    // The source that a word asks for, as `list` or `list:40:12`.
-    pub fn read(word: &str) -> Option<Store>
-        ensures { Roomy result }
-    {
+// The source that a word asks for, as `list` or `list:40:12`.
+impl FromStr for Store {
+    type Err = NoStore;
+
+    ghost from_str_gives = { Roomy };
+
+    fn from_str(word: &str) -> Result<Store, NoStore> {
         let mut parts = word.split(':');
-        let make = Make::named(parts.next()?)?;
+        let make = parts.next().ok_or(NoStore)?.parse()?;
         let Some(matrix) = parts.next() else {
-            return Some(Store::ample(make));
+            return Ok(Store::ample(make));
         };
         let matrix = room(matrix)?;
-        let payout = room(parts.next()?)?;
+        let payout = room(parts.next().ok_or(NoStore)?)?;
         match parts.next() {
-            None => Some(Store {
+            None => Ok(Store {
                 make,
                 matrix,
                 payout,
             }),
-            Some(_) => None,
+            Some(_) => Err(NoStore),
         }
     }
 }
 
-fn room(word: &str) -> Option<usize>
-    ensures { IfSome result (λ n. n ≤ 4096) }
+fn room(word: &str) -> Result<usize, NoStore>
+    ensures { IfOk result (λ n. n ≤ 4096) }
 {
-    let n = word.parse::<usize>().ok()?;
-    if n <= MOST { Some(n) } else { None }
+    match word.parse::<usize>() {
+        Ok(n) if n <= MOST => Ok(n),
+        _ => Err(NoStore),
+    }
 }

@@ -1,12 +1,12 @@
 // What one input, and all inputs, came to so far.
-ghost use Rattle.std.specs.Prelude.{◌≡◌, Ok};
-ghost use Rattle.games.specs.Tallies.{Counted, RowCounted, closed, game_after, if_more, is_refused, is_table, none_yet, nothing_asked};
+ghost use Rattle.std.specs.Prelude.{◌≡◌};
+ghost use Rattle.games.specs.Tallies.{Counted, closed, game_after, if_more, is_refused, is_table, none_yet, nothing_asked};
 
 use asking::Asked;
 use law::Reply;
 use script::Answer;
 use span::Fault;
-use wording::Moved;
+use wording::Rows;
 
 // One input.
 #[derive(Clone, Copy)]
@@ -55,10 +55,7 @@ pub fn refused(reply: &Reply) -> bool
 fn table(asked: &Asked) -> bool
     ensures { result ≡ is_table asked.now }
 {
-    match asked {
-        Asked::Table => true,
-        _ => false,
-    }
+    matches!(asked, Asked::Table)
 }
 
 // All inputs.
@@ -66,9 +63,7 @@ fn table(asked: &Asked) -> bool
 pub struct Tally {
     // nothing was turned down, bad or unreadable
     pub clean: bool,
-    // rows looked at, and those of which an end had moved
-    pub rows: i64,
-    pub moved: i64,
+    pub rows: Rows,
     // games, those of which a line was turned down or bad, and the others that have a table
     pub games: i64,
     pub tables: i64,
@@ -81,8 +76,7 @@ impl Tally {
     {
         Tally {
             clean: true,
-            rows: 0,
-            moved: 0,
+            rows: Rows::none(),
             games: 0,
             tables: 0,
             refused: 0,
@@ -93,25 +87,8 @@ impl Tally {
         ensures { Counted self.old found.now self.new }
     {
         match found {
-            Ok(answer) => self.count_answer(answer),
+            Ok(answer) => self.rows.count(answer),
             Err(_) => self.clean = false,
-        }
-    }
-
-    fn count_answer(&mut self, answer: &Answer)
-        ensures { Counted self.old (Ok answer.now) self.new }
-    {
-        if let Answer::Row(finding) = answer {
-            self.count_row(Moved::of(finding));
-        }
-    }
-
-    fn count_row(&mut self, moved: Moved)
-        ensures { RowCounted self.old moved self.new }
-    {
-        self.rows = self.rows.saturating_add(1);
-        if moved != Moved::Neither {
-            self.moved = self.moved.saturating_add(1);
         }
     }
 

@@ -8,144 +8,146 @@ use filing::Outcome;
 use law::Reply;
 use script::Answer;
 use span::Fault;
-use std::io;
 use std::str::from_utf8;
+use std::{io, mem};
 
 #[derive(Clone, Copy)]
-pub struct Teller {
+pub struct Teller<'a> {
+    rt: &'a HostRuntime,
     answers: bool,
+    // the line that is told, by its number, from 1 on
+    line: &'a [u8],
+    number: usize,
     // accepted, and not yet told
     posts: i64,
     narrowings: i64,
     game: Game,
 }
 
-impl Teller {
-    pub(crate) fn new(answers: bool) -> Teller {
+impl<'a> Teller<'a> {
+    pub(crate) fn new(rt: &'a HostRuntime, answers: bool) -> Teller<'a> {
         Teller {
+            rt,
             answers,
+            line: b"",
+            number: 0,
             posts: 0,
             narrowings: 0,
             game: Game::new(),
         }
     }
 
-    pub(crate) fn bad(&mut self, rt: &HostRuntime, number: usize, what: &str) -> io::Result<()> {
+    pub(crate) fn next_line(&mut self, line: &'a [u8]) {
+        self.line = line;
+        self.number = self.number.saturating_add(1);
+    }
+
+    pub(crate) fn bad(&mut self, what: &str) -> io::Result<()> {
         self.game.clean = false;
+        let number = self.number;
         if self.answers {
-            println!(rt; "bad {number} {what}")
+            println!(self.rt; "bad {number} {what}")
         } else {
-            self.rest(rt)?;
-            println!(rt; "  line {number}: {what}")
+            self.rest()?;
+            println!(self.rt; "  line {number}: {what}")
         }
     }
 
-    pub(crate) fn pure(
-        &mut self,
-        rt: &HostRuntime,
-        number: usize,
-        line: &[u8],
-        found: &Result<Answer, Fault>,
-    ) -> io::Result<()> {
+    pub(crate) fn pure(&mut self, found: &Result<Answer, Fault>) -> io::Result<()> {
         if found.is_err() {
             self.game.clean = false;
         }
+        let heap = self.rt.alloc();
         if self.answers {
-            rt.println(wording::bare(rt.alloc(), found)?)
+            self.rt.println(wording::bare(heap, found)?)
         } else {
-            self.rest(rt)?;
-            told_line(rt, number, line, wording::told(rt.alloc(), found)?.as_str())
+            self.rest()?;
+            self.told(wording::told(heap, found)?.as_str())
         }
     }
 
     // What was put to the run came to these outcomes.
-    pub(crate) fn put(
-        &mut self,
-        rt: &HostRuntime,
-        number: usize,
-        line: &[u8],
-        posed: &Posed,
-        outcomes: &[Outcome],
-    ) -> io::Result<()> {
+    pub(crate) fn put(&mut self, posed: &Posed, outcomes: &[Outcome]) -> io::Result<()> {
         match posed {
             Posed::Game(asked) => {
-                let replies = replies(rt.alloc(), outcomes)?;
-                self.asked(rt, number, line, asked, replies.as_slice())
+                let replies = replies(self.rt.alloc(), outcomes)?;
+                self.asked(asked, replies.as_slice())
             }
             _ => Ok(()),
         }
     }
 
     // What an ask came to: one reply, or for a table one for each row.
-    fn asked(
-        &mut self,
-        rt: &HostRuntime,
-        number: usize,
-        line: &[u8],
-        asked: &Asked,
-        replies: &[Reply],
-    ) -> io::Result<()> {
+    fn asked(&mut self, asked: &Asked, replies: &[Reply]) -> io::Result<()> {
         let Some(first) = replies.first() else {
             return Ok(());
         };
         self.game.count(asked, first);
         if self.answers {
-            bare_ask(rt, asked, replies)
+            bare_ask(self.rt, asked, replies)
         } else if refused(first) {
-            self.rest(rt)?;
-            told_line(rt, number, line, telling::told(rt.alloc(), first)?.as_str())
+            self.rest()?;
+            self.told(telling::told(self.rt.alloc(), first)?.as_str())
         } else {
-            self.accepted(rt, asked, replies)
+            self.accepted(asked, replies)
         }
     }
 
-    fn accepted(&mut self, rt: &HostRuntime, asked: &Asked, replies: &[Reply]) -> io::Result<()> {
+    fn accepted(&mut self, asked: &Asked, replies: &[Reply]) -> io::Result<()> {
         match asked {
             Asked::Post { .. } => {
-                self.narrowed(rt)?;
+                self.narrowed()?;
                 self.posts = self.posts.saturating_add(1);
                 Ok(())
             }
             Asked::Narrow => {
-                self.posted(rt)?;
+                self.posted()?;
                 self.narrowings = self.narrowings.saturating_add(1);
                 Ok(())
             }
             _ => {
-                self.rest(rt)?;
-                accepted::tell(rt, asked, replies)
+                self.rest()?;
+                accepted::tell(self.rt, asked, replies)
             }
         }
     }
 
+    // The line with its words and what it came to.
+    fn told(&self, what: &str) -> io::Result<()> {
+        let number = self.number;
+        match from_utf8(self.line) {
+            Ok(text) => {
+                let words = text.trim();
+                println!(self.rt; "  line {number}, {words}: {what}")
+            }
+            Err(_) => println!(self.rt; "  line {number}: {what}"),
+        }
+    }
+
     // Tells what is not yet told.
-    fn rest(&mut self, rt: &HostRuntime) -> io::Result<()> {
-        self.posted(rt)?;
-        self.narrowed(rt)
+    fn rest(&mut self) -> io::Result<()> {
+        self.posted()?;
+        self.narrowed()
     }
 
-    fn posted(&mut self, rt: &HostRuntime) -> io::Result<()> {
-        let posts = self.posts;
-        self.posts = 0;
-        match posts {
+    fn posted(&mut self) -> io::Result<()> {
+        match mem::take(&mut self.posts) {
             0 => Ok(()),
-            1 => println!(rt; "  1 coefficient posted"),
-            _ => println!(rt; "  {posts} coefficients posted"),
+            1 => println!(self.rt; "  1 coefficient posted"),
+            posts => println!(self.rt; "  {posts} coefficients posted"),
         }
     }
 
-    fn narrowed(&mut self, rt: &HostRuntime) -> io::Result<()> {
-        let narrowings = self.narrowings;
-        self.narrowings = 0;
-        match narrowings {
+    fn narrowed(&mut self) -> io::Result<()> {
+        match mem::take(&mut self.narrowings) {
             0 => Ok(()),
-            1 => println!(rt; "  narrowed once"),
-            _ => println!(rt; "  narrowed {narrowings} times"),
+            1 => println!(self.rt; "  narrowed once"),
+            narrowings => println!(self.rt; "  narrowed {narrowings} times"),
         }
     }
 
-    pub(crate) fn end(&mut self, rt: &HostRuntime) -> io::Result<Game> {
-        self.rest(rt)?;
+    pub(crate) fn end(&mut self) -> io::Result<Game> {
+        self.rest()?;
         Ok(self.game)
     }
 }
@@ -155,16 +157,5 @@ fn bare_ask(rt: &HostRuntime, asked: &Asked, replies: &[Reply]) -> io::Result<()
         (Asked::Table, _) => rt.println(telling::bare_table(rt.alloc(), replies)?),
         (_, [reply, ..]) => rt.println(telling::bare(rt.alloc(), reply)?),
         (_, []) => Ok(()),
-    }
-}
-
-// A line with its words and what it came to.
-fn told_line(rt: &HostRuntime, number: usize, line: &[u8], what: &str) -> io::Result<()> {
-    match from_utf8(line) {
-        Ok(text) => {
-            let words = text.trim();
-            println!(rt; "  line {number}, {words}: {what}")
-        }
-        Err(_) => println!(rt; "  line {number}: {what}"),
     }
 }

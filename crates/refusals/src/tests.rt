@@ -3,7 +3,7 @@ use script::{Call, read};
 use span::Millionths;
 use std::alloc::{AllocError, Global};
 use std::test::Fail;
-use wording::{bare, mistaken, told};
+use wording::{bare, told};
 
 const MOST: i64 = i64::MAX;
 
@@ -124,6 +124,6 @@ fn mistakes_are_told(rt: HostRuntime) -> Result<(), Fail> {
 fn wrong<'a>(heap: Global, name: &'a str, words: &[&'a str]) -> Result<String, AllocError> {
     match read(name, words) {
         Ok(_) => String::from_str(heap, "a call"),
-        Err(mistake) => mistaken(heap, &mistake),
+        Err(mistake) => mistake.to_string(heap),
     }
 }

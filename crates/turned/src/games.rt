@@ -1,12 +1,12 @@
 // Refusals and mistakes of a game's calls by sample, with the words that they get.
-use asking::{Asked, read};
+use asking::{Asked, Unread, read};
 use filing::{Outcome, Step, replay};
 use law::Reply;
 use source::{Grid, Source};
 use span::{Binary, Millionths};
-use std::alloc::{AllocError, Global};
+use std::alloc::Global;
 use std::test::Fail;
-use telling::{bare, mistaken, told};
+use telling::{bare, told};
 
 #[test]
 fn refused_calls_are_told(rt: HostRuntime) -> Result<(), Fail> {
@@ -108,18 +108,19 @@ fn asked(heap: Global, line: &str) -> Result<Asked, Fail> {
     let mut words = line.split_whitespace();
     let name = words.next().ok_or("an empty line")?;
     let numbers: Vec<&str> = words.collect(heap)?;
-    match read(heap, name, numbers.as_slice())? {
+    match read(heap, name, numbers.as_slice()) {
         Ok(asked) => Ok(asked),
         Err(_) => Err(Fail::new("a bad line")),
     }
 }
 
-fn wrong<'a>(heap: Global, name: &'a str, words: &[&'a str]) -> Result<String, AllocError> {
-    match read(heap, name, words)? {
+fn wrong<'a>(heap: Global, name: &'a str, words: &[&'a str]) -> Result<String, Fail> {
+    match read(heap, name, words) {
         Ok(asked) => {
             drop(asked);
-            String::from_str(heap, "an ask")
+            Err(Fail::new("an ask"))
         }
-        Err(mistake) => mistaken(heap, &mistake),
+        Err(Unread::Mistaken(mistake)) => Ok(mistake.to_string(heap)?),
+        Err(Unread::OutOfMemory(error)) => Err(error.into()),
     }
 }

@@ -1,3 +1,4 @@
 pub mod Moves
 pub mod Grouping
 pub mod Wording
+pub mod Rows

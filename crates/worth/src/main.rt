@@ -2,16 +2,14 @@
 #![tactic(auto)]
 
 mod line;
-mod measure;
 mod options;
 mod page;
-mod source;
 mod tally;
 
 use options::Settings;
+use page::Page;
 use std::process::ExitCode;
 use std::{env, io};
-use tally::Tally;
 
 const HELP: &str = "\
 worth FILE...     answers the calls of each file
@@ -52,38 +50,12 @@ fn run(rt: &HostRuntime) -> io::Result<bool> {
 }
 
 fn inputs(rt: &HostRuntime, settings: &Settings) -> io::Result<bool> {
-    let mut tally = Tally::new();
+    let mut page = Page::new(rt, settings);
     if settings.files.is_empty() {
-        done(
-            rt,
-            settings,
-            "standard input",
-            source::of_stdin(rt),
-            &mut tally,
-        )?;
+        page.standard_input()?;
     }
     for file in settings.files.iter() {
-        let name = file.as_str();
-        done(rt, settings, name, source::of_file(rt, name), &mut tally)?;
+        page.file(file.as_str())?;
     }
-    if !settings.answers {
-        page::rows(rt, &tally)?;
-    }
-    Ok(tally.clean)
-}
-
-fn done(
-    rt: &HostRuntime,
-    settings: &Settings,
-    name: &str,
-    lines: io::Result<Vec<Vec<u8>>>,
-    tally: &mut Tally,
-) -> io::Result<()> {
-    match lines {
-        Ok(lines) => page::input(rt, settings, name, lines.as_slice(), tally),
-        Err(error) => {
-            tally.clean = false;
-            eprintln!(rt; "worth: {name} cannot be read ({error}); expected a file of calls")
-        }
-    }
+    page.end()
 }

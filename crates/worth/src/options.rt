@@ -1,5 +1,5 @@
 // What the words of the command line, and of an input's first line, ask for.
-use crate::measure::Measure;
+use span::Measure;
 use std::alloc::{AllocError, AllocFailed, Global};
 use std::env::Args;
 use std::fmt;
@@ -34,20 +34,15 @@ impl Settings {
             measure: None,
             files: Vec::new(heap),
         };
-        let mut wants_scale = false;
-        for word in words.skip(1) {
-            if wants_scale {
-                let measure = scale(heap, word.as_str())?;
+        let mut words = words.skip(1);
+        while let Some(word) = words.next() {
+            if word.as_str() == "--scale" {
+                let value = words.next().ok_or(Misuse::NoScale)?;
+                let measure = scale(heap, value.as_str())?;
                 settings.measure = settings.measure.or(Some(measure));
-                wants_scale = false;
-            } else if word.as_str() == "--scale" {
-                wants_scale = true;
             } else {
                 settings.take(word)?;
             }
-        }
-        if wants_scale {
-            return Err(Misuse::NoScale);
         }
         Ok(settings)
     }
@@ -80,27 +75,21 @@ pub(crate) fn first_line(heap: Global, line: &[u8]) -> Result<Option<Measure>, M
 
 fn file_scale(heap: Global, words: &str) -> Result<Option<Measure>, Misuse> {
     let mut measure = None;
-    let mut wants_scale = false;
-    for word in words.split_whitespace() {
-        if wants_scale {
-            measure = measure.or(Some(scale(heap, word)?));
-            wants_scale = false;
-        } else if word == "--scale" {
-            wants_scale = true;
-        } else {
+    let mut words = words.split_whitespace();
+    while let Some(word) = words.next() {
+        if word != "--scale" {
             return Err(Misuse::NotForFiles(String::from_str(heap, word)?));
         }
-    }
-    if wants_scale {
-        return Err(Misuse::NoScale);
+        let value = words.next().ok_or(Misuse::NoScale)?;
+        measure = measure.or(Some(scale(heap, value)?));
     }
     Ok(measure)
 }
 
 fn scale(heap: Global, word: &str) -> Result<Measure, Misuse> {
-    match Measure::named(word) {
-        Some(measure) => Ok(measure),
-        None => Err(Misuse::UnknownScale(String::from_str(heap, word)?)),
+    match word.parse() {
+        Ok(measure) => Ok(measure),
+        Err(_) => Err(Misuse::UnknownScale(String::from_str(heap, word)?)),
     }
 }
 
