@@ -1,39 +1,16 @@
--- a grid's meaning after its runs are cleared, and after a post into one
-use Rattle.std.proofs.Common.{◌≡◌, ℕ, Bool, true, false, cond, ◌&&◌, ◌||◌, ltb, leb, ◌≢◌, List, [], ◌∷◌, length, get_or, set, replicate, ℤ, pos, ◌+ℤ◌, nat_abs, None, Ok, Err, Result, sym, refl, ap, ◌∙◌, inl, inr, arith, w32, SFits, to_z, of_z}
-use Rattle.std.proofs.lemmas.List.{get_or_past, get_or-replicate, get_or-set_same, get_or-set_other, length-replicate, length-set}
+-- a grid's meaning after a post into one of its runs
+use Rattle.std.proofs.Common.{◌≡◌, ℕ, Bool, true, false, cond, ◌&&◌, ◌||◌, ltb, leb, ◌≢◌, List, [], ◌∷◌, length, get_or, set, ℤ, pos, ◌+ℤ◌, nat_abs, None, Ok, Err, Result, sym, refl, ap, ◌∙◌, inl, inr, arith, w32, SFits, to_z, of_z}
+use Rattle.std.proofs.lemmas.List.{get_or-set_same, get_or-set_other, length-set}
 use Rattle.std.proofs.lemmas.Int.{to_z-of_z}
-use Rattle.std.proofs.lemmas.Bool.{and_from, and_parts, both_ways, cases_Bool, cases_lt, le-ltb, ltb-true}
+use Rattle.std.proofs.lemmas.Bool.{and_from, and_parts, both_ways, cases_Bool, le-ltb, ltb-true}
 use Rattle.span.specs.Questions.{ask, first_no}
 use Rattle.source.specs.declared.fault.Fault.{Fault}
 use Rattle.source.specs.declared.place.Place.{Place}
 use Rattle.source.specs.declared.place.Place.TheVariants.{Matrix, Payout}
-use Rattle.source.specs.Grids.{RunPosted, grid_means, grid_opened, stands}
+use Rattle.source.specs.Grids.{RunPosted, grid_means, stands}
 use Rattle.source.specs.Meaning.{Posting, in_range, index_of, kind_of, limit, same, taken}
 use Rattle.source.proofs.Meanings.{one_meaning}
 use Rattle.source.proofs.Places.{at_index, held_again, same_refl, same_true}
-
-zeros : (n i : ℕ) → get_or (replicate n (pos 0)) i (pos 0) ≡ pos 0
-zeros n i =
-    elim (cases_lt i n) [ inl h ↦ get_or-replicate n i (pos 0) (pos 0) h | inr h ↦ get_or_past (replicate n (pos 0)) i (pos 0) (rw length-replicate h) ]
-
-either_zero : (b : Bool) (z : ℤ) → z ≡ pos 0 → cond b z (pos 0) ≡ pos 0
-either_zero true z e = e
-either_zero false z e = refl
-
--- ---- cleared runs
-nothing : (xs ys : List ℤ) (m n : ℕ) → xs ≡ replicate m (pos 0) → ys ≡ replicate n (pos 0) → (q : Place) → (grid_means xs ys).coefficient q ≡ pos 0
-nothing xs ys m n e h (Matrix v i j) =
-    let z : get_or xs (index_of (Matrix v i j)) (pos 0) ≡ pos 0 = rw (e, zeros m (index_of (Matrix v i j))) refl in
-    either_zero _ _ z
-nothing xs ys m n e h (Payout v i) =
-    let z : get_or ys (index_of (Payout v i)) (pos 0) ≡ pos 0 = rw (h, zeros n (index_of (Payout v i))) refl in
-    either_zero _ _ z
-
-pub cleared : (xs ys : List ℤ) (m n : ℕ) → xs ≡ replicate m (pos 0) → ys ≡ replicate n (pos 0) → grid_means xs ys ≡ grid_opened m n
-cleared xs ys m n e h =
-    let a : length xs ≡ m = rw (e, length-replicate) refl in
-    let b : length ys ≡ n = rw (h, length-replicate) refl in
-    one_meaning (grid_means xs ys) (grid_opened m n) (nothing xs ys m n e h) (λ q. rw (a, b) refl) (λ k. rw (a, b) refl) (λ q. rw (a, b) refl)
 
 -- ---- a number that is raised
 -- what a run tells of a place

@@ -1,5 +1,4 @@
 pub mod Counts
-pub mod Entries
 pub mod Grids
 pub mod Listings
 pub mod Meanings

@@ -59,8 +59,12 @@ list_opened m n = record {
   standing = λ q. false;
 }
 
+-- why a tally added nothing, as the source tells it
+abbrev pub refused_at : Place → Refusal → Fault
+refused_at p NoRoom = Full p
+refused_at p TooLarge = SumTooLarge p
+
 -- a tally's answer as the source's
 abbrev pub answer_of : Place → Result (Unit {0}) Refusal → Result (Unit {0}) Fault
 answer_of p (Ok x) = Ok x
-answer_of p (Err NoRoom) = Err (Full p)
-answer_of p (Err TooLarge) = Err (SumTooLarge p)
+answer_of p (Err f) = Err (refused_at p f)

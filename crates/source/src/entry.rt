@@ -1,8 +1,13 @@
 // Entries: a sum at a place of either kind.
 ghost use Rattle.std.specs.Prelude.{◌≡◌, true};
+ghost use Rattle.std.proofs.Common.{rules};
+ghost use Rattle.source.specs.Lists.{refused_at};
+
+use crate::fault::Fault;
+use crate::place::Place;
 
 // Where a coefficient of the matrix is: parts go from 0 to 8, rows and columns from 0 to 11.
-#[derive(Clone, Copy)]
+#[derive(Clone, Copy, PartialEq, Eq, Debug)]
 pub struct MatrixPlace {
     pub part: usize,
     pub row: usize,
@@ -10,21 +15,21 @@ pub struct MatrixPlace {
 }
 
 // Where a payout is: parts go from 0 to 8, rows from 0 to 11.
-#[derive(Clone, Copy)]
+#[derive(Clone, Copy, PartialEq, Eq, Debug)]
 pub struct PayoutPlace {
     pub part: usize,
     pub row: usize,
 }
 
 // The sum of what was posted at a place.
-#[derive(Clone, Copy)]
+#[derive(Clone, Copy, PartialEq, Eq, Debug)]
 pub struct Entry<P> {
     pub place: P,
     pub sum: i32,
 }
 
 // Why nothing was added.
-#[derive(Clone, Copy)]
+#[derive(Clone, Copy, PartialEq, Eq, Debug)]
 pub enum Refusal {
     // the place has no entry, and none is free
     NoRoom,
@@ -32,20 +37,27 @@ pub enum Refusal {
     TooLarge,
 }
 
-// Places that can be told apart.
-pub trait Same {
-    fn same(&self, other: &Self) -> bool
-        ensures { (result ≡ true → self.now ≡ other.now) × (self.now ≡ other.now → result ≡ true) };
-}
-
-impl Same for MatrixPlace {
-    fn same(&self, other: &MatrixPlace) -> bool {
-        self.part == other.part && self.row == other.row && self.column == other.column
+impl Refusal {
+    // As the source tells it of a place.
+    pub(crate) fn at(self, place: Place) -> Fault
+        ensures { result ≡ refused_at place self }
+    {
+        match self {
+            Refusal::NoRoom => Fault::Full(place),
+            Refusal::TooLarge => Fault::SumTooLarge(place),
+        }
     }
 }
 
-impl Same for PayoutPlace {
-    fn same(&self, other: &PayoutPlace) -> bool {
-        self.row == other.row && self.part == other.part
-    }
+// Places that are equal only where they are one and the same.
+pub trait Exact: Eq + Copy {
+    ghost identical: { (a b : Self) → Self.eq a b ≡ true → a ≡ b };
+}
+
+impl Exact for MatrixPlace {
+    ghost identical = { Prim.search rules };
+}
+
+impl Exact for PayoutPlace {
+    ghost identical = { Prim.search rules };
 }

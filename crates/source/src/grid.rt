@@ -1,5 +1,5 @@
 // The source that keeps every coefficient, each at its index in a run of numbers.
-ghost use Rattle.std.specs.Prelude.{◌≡◌, length, replicate, pos};
+ghost use Rattle.std.specs.Prelude.{◌≡◌, length};
 ghost use Rattle.source.specs.contracts.grid.kept.GridSource.TheImpl.{ghosts as grid};
 ghost use Rattle.source.specs.Grids.{RunPosted, grid_opened, run_asked};
 
@@ -7,7 +7,8 @@ mod kept;
 
 use crate::fault::Fault;
 use crate::place::Place;
-use crate::sum::sum_within;
+use crate::source::LARGEST;
+use span::sum_within;
 
 // The numbers of the matrix at (part * 12 + row) * 12 + column, and the payouts at part * 12 + row.
 // A shorter run holds fewer places; what is past the last place is never read.
@@ -22,17 +23,9 @@ impl<'a> Grid<'a> {
     pub fn new(matrix: &'a mut [i32], payouts: &'a mut [i32]) -> Grid<'a>
         ensures { (grid.meaning result ≡ grid_opened (length matrix.old) (length payouts.old)) × grid.sound result }
     {
-        clear(matrix);
-        clear(payouts);
+        matrix.fill(0);
+        payouts.fill(0);
         Grid { matrix, payouts }
-    }
-}
-
-fn clear(run: &mut [i32])
-    ensures { run.new ≡ replicate (length run.old) (pos 0) }
-{
-    for number in run.iter_mut() {
-        *number = 0;
     }
 }
 
@@ -40,15 +33,9 @@ fn clear(run: &mut [i32])
 fn post_run(run: &mut [i32], place: Place, amount: i32) -> Result<(), Fault>
     ensures { RunPosted run.old place amount result run.new }
 {
-    let Some(at) = place.index() else {
-        return Err(Fault::OutOfRange(place));
-    };
-    if at >= run.len() {
-        return Err(Fault::Full(place));
-    }
-    let Some(sum) = sum_within(run[at], amount) else {
-        return Err(Fault::SumTooLarge(place));
-    };
+    let at = place.index().ok_or(Fault::OutOfRange(place))?;
+    let held = *run.get(at).ok_or(Fault::Full(place))?;
+    let sum = sum_within(LARGEST, held, amount).ok_or(Fault::SumTooLarge(place))?;
     run[at] = sum;
     Ok(())
 }
@@ -57,9 +44,5 @@ fn post_run(run: &mut [i32], place: Place, amount: i32) -> Result<(), Fault>
 fn ask_run(run: &[i32], place: Place) -> Option<i32>
     ensures { result ≡ run_asked run.now place }
 {
-    let at = place.index()?;
-    if at >= run.len() {
-        return None;
-    }
-    Some(run[at])
+    run.get(place.index()?).copied()
 }

@@ -8,7 +8,6 @@ mod list;
 mod place;
 mod sentence;
 mod source;
-mod sum;
 mod tally;
 
 pub use entry::{Entry, MatrixPlace, PayoutPlace};

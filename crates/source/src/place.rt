@@ -25,23 +25,13 @@ impl Place {
     pub fn spot(self) -> Spot
         ensures { result ≡ spot_of self }
     {
-        match self {
-            Place::Matrix { part, row, column } => Spot { part, row, column },
-            Place::Payout { part, row } => Spot {
-                part,
-                row,
-                column: 12,
-            },
-        }
+        self.into()
     }
 
     pub(crate) fn in_range(self) -> bool
         ensures { result ≡ in_range self }
     {
-        match self {
-            Place::Matrix { part, row, column } => part < 9 && row < 12 && column < 12,
-            Place::Payout { part, row } => part < 9 && row < 12,
-        }
+        self.index().is_some()
     }
 
     // Its index among the places of its kind, in the order of their numbers, if it is in range.
@@ -54,6 +44,21 @@ impl Place {
             }
             Place::Payout { part, row } if part < 9 && row < 12 => Some(part * 12 + row),
             _ => None,
+        }
+    }
+}
+
+impl From<Place> for Spot {
+    ghost from_gives = { λ p s. s ≡ spot_of p };
+
+    fn from(place: Place) -> Spot {
+        match place {
+            Place::Matrix { part, row, column } => Spot { part, row, column },
+            Place::Payout { part, row } => Spot {
+                part,
+                row,
+                column: 12,
+            },
         }
     }
 }

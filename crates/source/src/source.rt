@@ -5,6 +5,9 @@ ghost use Rattle.source.specs.Meaning.{Meaning, Posting, asked, emptied};
 use crate::fault::Fault;
 use crate::place::Place;
 
+// The largest size of a sum at a place.
+pub(crate) const LARGEST: u32 = 1_073_741_824;
+
 // A source keeps coefficients at places. Its meaning is the coefficient at every place, the places
 // held, how many of each kind can be held, and the standing places, which it always holds.
 pub trait Source {

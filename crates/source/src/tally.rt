@@ -1,9 +1,11 @@
-// Sums by place, kept in a lent slice of entries.
+// Sums by place, kept in a lent slice of entries. The methods pass the slice, and how many of its
+// entries are in use, to functions: what a lent slice holds is said of functions over it.
 ghost use Rattle.std.specs.Prelude.{◌≡◌, ◌<◌, ◌≤◌, length, ℤ, Some, None, Ok, Err, slice_set};
 ghost use Rattle.source.specs.Tallies.{Added, AddedAt, FirstAt, NoneAt, Refused, Slot, Told, entry};
 
-use crate::entry::{Entry, Refusal, Same};
-use crate::sum::sum_within;
+use crate::entry::{Entry, Exact, Refusal};
+use crate::source::LARGEST;
+use span::sum_within;
 
 // The first `used` entries are in use; what stands past them holds nothing.
 #[derive(Drop)]
@@ -12,7 +14,7 @@ pub struct Tally<'a, P> {
     used: usize,
 }
 
-impl<'a, P: Same + Copy> Tally<'a, P> {
+impl<'a, P: Exact> Tally<'a, P> {
     // A tally with nothing in it, with room for as many places as there are entries.
     pub(crate) fn new(entries: &'a mut [Entry<P>]) -> Tally<'a, P>
         ensures { (result.entries.now ≡ entries.old) × (result.used ≡ 0) }
@@ -45,7 +47,7 @@ impl<'a, P: Same + Copy> Tally<'a, P> {
 }
 
 // Adds the amount to the place's entry, or begins one; tells which entry that is.
-fn add<P: Same + Copy>(
+fn add<P: Exact>(
     entries: &mut [Entry<P>],
     used: usize,
     place: P,
@@ -53,25 +55,14 @@ fn add<P: Same + Copy>(
 ) -> Result<usize, Refusal>
     ensures { elim result [ Ok at ↦ AddedAt entries.old used place amount at entries.new × (at < length entries.old) | Err f ↦ Refused entries.old used place amount f × (entries.new ≡ entries.old) ] }
 {
-    let Some((at, held)) = slot(entries, used, &place) else {
-        return Err(Refusal::NoRoom);
-    };
-    let Some(sum) = sum_within(held, amount) else {
-        return Err(Refusal::TooLarge);
-    };
-    put(entries, at, place, sum);
+    let (at, held) = slot(entries, used, &place).ok_or(Refusal::NoRoom)?;
+    let sum = sum_within(LARGEST, held, amount).ok_or(Refusal::TooLarge)?;
+    entries[at] = Entry { place, sum };
     Ok(at)
 }
 
-fn put<P: Copy>(entries: &mut [Entry<P>], at: usize, place: P, sum: i32)
-    requires { at < length entries.old }
-    ensures { entries.new ≡ slice_set entries.old at (entry place sum) }
-{
-    entries[at] = Entry { place, sum };
-}
-
 // The place's entry and its sum, or else the next entry that is free.
-fn slot<P: Same>(entries: &[Entry<P>], used: usize, place: &P) -> Option<(usize, i32)>
+fn slot<P: Exact>(entries: &[Entry<P>], used: usize, place: &P) -> Option<(usize, i32)>
     ensures { elim result [ Some t ↦ Slot entries.now used place.now t.0 t.1 × (t.0 < length entries.now) | None ↦ NoneAt entries.now used place.now × (length entries.now ≤ used) ] }
 {
     match find(entries, used, place) {
@@ -82,24 +73,19 @@ fn slot<P: Same>(entries: &[Entry<P>], used: usize, place: &P) -> Option<(usize,
 }
 
 // The sum at the place, if one of the entries in use is at it.
-fn sum_at<P: Same>(entries: &[Entry<P>], used: usize, place: &P) -> Option<i32>
+fn sum_at<P: Exact>(entries: &[Entry<P>], used: usize, place: &P) -> Option<i32>
     ensures { Told entries.now used place.now result }
 {
-    match find(entries, used, place) {
-        Some(at) => Some(entries[at].sum),
-        None => None,
-    }
+    let at = find(entries, used, place)?;
+    Some(entries[at].sum)
 }
 
 // The first of the entries in use that is at the place.
-fn find<P: Same>(entries: &[Entry<P>], used: usize, place: &P) -> Option<usize>
+fn find<P: Exact>(entries: &[Entry<P>], used: usize, place: &P) -> Option<usize>
     ensures { elim result [ Some i ↦ ((s : ℤ) × FirstAt entries.now used place.now i s) | None ↦ NoneAt entries.now used place.now ] }
 {
-    let end = used.min(entries.len());
-    for i in 0..end {
-        if entries[i].place.same(place) {
-            return Some(i);
-        }
-    }
-    None
+    entries
+        .iter()
+        .take(used)
+        .position(|entry| entry.place == *place)
 }

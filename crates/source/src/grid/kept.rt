@@ -1,7 +1,7 @@
 // A grid as a source.
 ghost use Rattle.source.specs.Grids.{grid_means};
 
-use super::{Grid, ask_run, clear, post_run};
+use super::{Grid, ask_run, post_run};
 use crate::fault::Fault;
 use crate::place::Place;
 use crate::source::Source;
@@ -12,8 +12,8 @@ impl Source for Grid<'_> {
     ghost sound = { λ _. Unit {0} };
 
     fn empty(&mut self) {
-        clear(self.matrix);
-        clear(self.payouts);
+        self.matrix.fill(0);
+        self.payouts.fill(0);
     }
 
     fn post(&mut self, place: Place, amount: i32) -> Result<(), Fault> {

@@ -1,9 +1,8 @@
 // A list as a source.
-ghost use Rattle.std.specs.Prelude.{◌≡◌};
-ghost use Rattle.source.specs.Lists.{answer_of, list_means, ListSound};
+ghost use Rattle.source.specs.Lists.{list_means, ListSound};
 
 use super::List;
-use crate::entry::{MatrixPlace, PayoutPlace, Refusal};
+use crate::entry::{MatrixPlace, PayoutPlace};
 use crate::fault::Fault;
 use crate::place::Place;
 use crate::source::Source;
@@ -22,16 +21,13 @@ impl Source for List<'_> {
         if !place.in_range() {
             return Err(Fault::OutOfRange(place));
         }
-        match place {
+        let added = match place {
             Place::Matrix { part, row, column } => {
-                let added = self.matrix.add(MatrixPlace { part, row, column }, amount);
-                answer(place, added)
+                self.matrix.add(MatrixPlace { part, row, column }, amount)
             }
-            Place::Payout { part, row } => {
-                let added = self.payouts.add(PayoutPlace { part, row }, amount);
-                answer(place, added)
-            }
-        }
+            Place::Payout { part, row } => self.payouts.add(PayoutPlace { part, row }, amount),
+        };
+        added.map_err(|refusal| refusal.at(place))
     }
 
     fn ask(&self, place: Place) -> Option<i32> {
@@ -41,16 +37,5 @@ impl Source for List<'_> {
             }
             Place::Payout { part, row } => self.payouts.sum(&PayoutPlace { part, row }),
         }
-    }
-}
-
-// What a tally answered, as the source's answer.
-fn answer(place: Place, added: Result<(), Refusal>) -> Result<(), Fault>
-    ensures { result ≡ answer_of place added }
-{
-    match added {
-        Ok(()) => Ok(()),
-        Err(Refusal::NoRoom) => Err(Fault::Full(place)),
-        Err(Refusal::TooLarge) => Err(Fault::SumTooLarge(place)),
     }
 }

@@ -1,7 +1,0 @@
-use Rattle.std.proofs.Common.{length}
-use Rattle.source.proofs.Grids.{cleared}
-use Rattle.source.proofs.grid.Grid.new.Goals as goal
-
-pub returns : goal.returns
-returns c =
-    (cleared c.clear.new.run c.clear-2.new.run (length c.args.matrix.now) (length c.args.payouts.now) c.clear.ensures c.clear-2.ensures, tt)
