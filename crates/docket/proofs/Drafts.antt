@@ -20,7 +20,8 @@ use Rattle.law.specs.Calls.{Given}
 use Rattle.law.specs.Calls.Given.{opening, post, range}
 use Rattle.law.specs.History.{posted, range_of, settings_of, source_of, states_of}
 use Rattle.law.specs.Decides.{decides, has_place, place_questions, range_questions, unless, verdict, wholes}
-use Rattle.law.proofs.Places.{same_place, told_posted}
+use Rattle.source.proofs.Places.{same_true}
+use Rattle.law.proofs.Places.{told_posted}
 use Rattle.docket.specs.declared.desk.Desk.{Desk}
 use Rattle.docket.specs.declared.desk.Stage.TheVariants.{Drafting}
 use Rattle.docket.specs.Reflects.{Reflects, Replied}
@@ -101,7 +102,7 @@ module _ (S : ℕ) (M : Meaning) (h : List Given) (N : Meaning) (P : Type 0) (d 
 
   still_limited : (p : Place) (a : ℤ) → within S (wholes p) (posted h p +ℤ a) ≡ true → (r : Place) → within S (wholes r) (posted (post p a ∷ h) r) ≡ true
   still_limited p a w r = elim (cases_Bool (same p r)) [
-    | inl e ↦ rw (cond-true (same p r) (posted h r +ℤ a) (posted h r) e) (subst (λ t. within S (wholes t) (posted h t +ℤ a) ≡ true) (same_place p r e) w)
+    | inl e ↦ rw (cond-true (same p r) (posted h r +ℤ a) (posted h r) e) (subst (λ t. within S (wholes t) (posted h t +ℤ a) ≡ true) (same_true p r e) w)
     | inr e ↦ rw (cond-false (same p r) (posted h r +ℤ a) (posted h r) e) (q.limited r)
   ]
 

@@ -1,28 +1,11 @@
--- places that are the same, and what a source tells of one that it does not hold
-use Rattle.std.proofs.Common.{◌≡◌, true, false, ◌&&◌, eqb, List, [], ◌∷◌, pos, sym, refl, ◌∙◌, inl, inr}
-use Rattle.std.proofs.lemmas.Bool.{and_parts, cases_Bool, cond-false, cond-true, eqb-true, or_parts, true≢false}
+-- what a source tells of a place that it does not hold
+use Rattle.std.proofs.Common.{◌≡◌, false, List, [], ◌∷◌, pos, sym, refl, ◌∙◌, inl, inr}
+use Rattle.std.proofs.lemmas.Bool.{cases_Bool, cond-false, cond-true, or_parts}
 use Rattle.source.specs.declared.place.Place.{Place}
-use Rattle.source.specs.declared.place.Place.TheVariants.{Matrix, Payout}
 use Rattle.source.specs.Meaning.{Meaning, same, told}
 use Rattle.law.specs.Calls.{Given}
 use Rattle.law.specs.Calls.Given.{opening, post, range, propose, attempt, run, narrow}
 use Rattle.law.specs.History.{held_of, posted, source_of}
-
-pub same_place : (p q : Place) → same p q ≡ true → p ≡ q
-same_place (Matrix v i j) (Matrix w r c) e =
-    let a = and_parts (eqb v w && eqb i r) (eqb j c) e in
-    let b = and_parts (eqb v w) (eqb i r) a.0 in
-    let x = eqb-true v w b.0 in
-    let y = eqb-true i r b.1 in
-    let z = eqb-true j c a.1 in
-    cc
-same_place (Matrix v i j) (Payout w r) e = absurd (true≢false (sym e))
-same_place (Payout v i) (Matrix w r c) e = absurd (true≢false (sym e))
-same_place (Payout v i) (Payout w r) e =
-    let a = and_parts (eqb v w) (eqb i r) e in
-    let x = eqb-true v w a.0 in
-    let y = eqb-true i r a.1 in
-    cc
 
 -- nothing was posted where nothing is held
 pub unheld : (M : Meaning) (h : List Given) (q : Place) → held_of M h q ≡ false → posted h q ≡ pos 0

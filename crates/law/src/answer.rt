@@ -1,6 +1,7 @@
-// What an accepted call answers.
+// What an accepted call answers. An Option of a trial's number would hold the same, but would not
+// say that the call was done.
 
-#[derive(Clone, Copy)]
+#[derive(Clone, Copy, PartialEq, Eq, Debug)]
 pub enum Answer {
     // it was done
     Done,

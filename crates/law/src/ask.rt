@@ -4,7 +4,7 @@ use crate::call::Call;
 use crate::fault::Fault;
 use span::Span;
 
-#[derive(Clone, Copy)]
+#[derive(Clone, Copy, PartialEq, Eq, Debug)]
 pub enum Ask<'c> {
     // a call, which may change it
     Make(Call<'c>),
@@ -12,7 +12,7 @@ pub enum Ask<'c> {
     Row { row: usize },
 }
 
-#[derive(Clone, Copy)]
+#[derive(Clone, Copy, PartialEq, Eq, Debug)]
 pub enum Reply {
     Made(Result<Answer, Fault>),
     Told(Result<Span, Fault>),

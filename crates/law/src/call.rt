@@ -1,7 +1,7 @@
 // The calls that may change a docket.
 use source::Place;
 
-#[derive(Clone, Copy)]
+#[derive(Clone, Copy, PartialEq, Eq, Debug)]
 pub enum Call<'c> {
     // n states and k settings, nothing posted
     Open {

@@ -1,6 +1,7 @@
 // What a call of a docket is turned down with.
 ghost use Rattle.std.specs.Prelude.{◌≡◌};
 ghost use Rattle.law.specs.Faults.{number, layer, place};
+ghost use Rattle.law.specs.declared.fault.Fault.TheVariants.{Figures, Proposal, Trial, Source};
 
 use span::{Layer, Spot};
 
@@ -55,5 +56,37 @@ impl Fault {
             Fault::Source(fault) => fault.place(),
             _ => Spot::default(),
         }
+    }
+}
+
+impl From<system::Fault> for Fault {
+    ghost from_gives = { λ f e. e ≡ Figures f };
+
+    fn from(fault: system::Fault) -> Fault {
+        Fault::Figures(fault)
+    }
+}
+
+impl From<prepare::Fault> for Fault {
+    ghost from_gives = { λ f e. e ≡ Proposal f };
+
+    fn from(fault: prepare::Fault) -> Fault {
+        Fault::Proposal(fault)
+    }
+}
+
+impl From<enclosure::Fault> for Fault {
+    ghost from_gives = { λ f e. e ≡ Trial f };
+
+    fn from(fault: enclosure::Fault) -> Fault {
+        Fault::Trial(fault)
+    }
+}
+
+impl From<source::Fault> for Fault {
+    ghost from_gives = { λ f e. e ≡ Source f };
+
+    fn from(fault: source::Fault) -> Fault {
+        Fault::Source(fault)
     }
 }

@@ -7,7 +7,7 @@ use Rattle.source.specs.declared.place.Place.{Place}
 use Rattle.source.specs.declared.place.Place.TheVariants.{Matrix, Payout}
 use Rattle.source.specs.Meaning.{same}
 use Rattle.law.specs.Decides.{has_place}
-use Rattle.law.proofs.Places.{same_place}
+use Rattle.source.proofs.Places.{same_true}
 use Rattle.sheet.specs.Layout.{at_ranges, place_of}
 
 pub same_self : (p : Place) → same p p ≡ true
@@ -67,7 +67,7 @@ module _ (n : ℕ) where
       sym (whole s) ∙ ap (λ d. (n + 1) * (n * d + (s / (n + 1)) % n) + s % (n + 1)) a ∙ ap (λ d. (n + 1) * (n * (t / (n * (n + 1))) + d) + s % (n + 1)) b ∙ ap (λ d. (n + 1) * (n * (t / (n * (n + 1))) + (t / (n + 1)) % n) + d) c ∙ whole t
 
   pub same_coefficient : (s t : ℕ) → same (place_of n s) (place_of n t) ≡ true → s ≡ t
-  same_coefficient s t e = own_place s t (same_place (place_of n s) (place_of n t) e)
+  same_coefficient s t e = own_place s t (same_true (place_of n s) (place_of n t) e)
 
 -- ---- and every place of a game is that of a coefficient
 module _ (n : ℕ) (some : 0 < n) where
