@@ -1,5 +1,5 @@
 -- a call by its arm, and what each stage has for it
-use Rattle.std.proofs.Common.{◌≡◌, ℕ, List, ℤ, None, Err, Result, sym, ap, subst, arith}
+use Rattle.std.proofs.Common.{◌≡◌, ℕ, List, ℤ, None, Err, Result, sym, ap, subst}
 use Rattle.prepare.specs.declared.prepared.Prepared.{Prepared}
 use Rattle.enclosure.specs.declared.enclosure.Enclosure.{Enclosure}
 use Rattle.source.specs.Meaning.{Meaning}
@@ -11,20 +11,12 @@ use Rattle.law.specs.Calls.{Given, given}
 use Rattle.law.specs.Calls.Given.{attempt, run, narrow}
 use Rattle.law.specs.History.{Basis, holds, stands}
 use Rattle.law.specs.Decides.{decides, narrow_decided, run_decided, try_decided}
-use Rattle.law.specs.Law.{AtOnce}
 use Rattle.docket.specs.declared.desk.Desk.{Desk}
 use Rattle.docket.specs.Reflects.{Holds, Prepares, Reflects, Replied}
 use Rattle.docket.proofs.Drafts.{refused}
 
 pub as_asked : (S : ℕ) (M : Meaning) (h : List Given) (k l : Call) (r : Result Answer Fault) (N : Meaning) (P : Type 0) (d : Desk) → k ≡ l → Replied S M h (given l) r N P d → Replied S M h (given k) r N P d
 as_asked S M h k l r N P d e x = subst (λ z. Replied S M h (given z) r N P d) (sym e) x
-
-pub at_once_as : (S : ℕ) (h : List Given) (k l : Call) (r : Result Answer Fault) → k ≡ l → AtOnce S h (given l) r → AtOnce S h (given k) r
-at_once_as S h k l r e x = subst (λ z. AtOnce S h (given z) r) (sym e) x
-
--- where no proposal stands, nothing is owed
-pub none_at_once : (S : ℕ) (h : List Given) (t : ℕ) (r : Result Answer Fault) → stands h ≡ None → AtOnce S h (run t) r
-none_at_once S h t r e o s = let z : ◌≡◌ {A = ℕ} 0 1 = cc in absurd (omega arith)
 
 -- what a held enclosure was tried with
 pub still_prepares : (S : ℕ) (h : List Given) (b : Basis) (e : Enclosure) (p : Prepared) → p ≡ e.prepared → Holds S h b e → Prepares S h b.offer p

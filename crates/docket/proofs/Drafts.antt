@@ -23,17 +23,13 @@ use Rattle.law.specs.Decides.{decides, has_place, place_questions, range_questio
 use Rattle.source.proofs.Places.{same_true}
 use Rattle.law.proofs.Places.{told_posted}
 use Rattle.docket.specs.declared.desk.Desk.{Desk}
-use Rattle.docket.specs.declared.desk.Stage.TheVariants.{Drafting}
-use Rattle.docket.specs.Reflects.{Reflects, Replied}
-
-abbrev drafts : System → Desk
-drafts s = record { figures = s; stage = Drafting }
+use Rattle.docket.specs.Reflects.{Reflects, Replied, drafting}
 
 -- nothing is within every limit
 zero_within : (S : ℕ) (p : Place) → within S (wholes p) (pos 0) ≡ true
 zero_within S p = le-leb 0 (wholes p * S) (omega arith)
 
-pub begins : (S : ℕ) (M N : Meaning) (P : Type 0) (s : System) → Fresh S 1 0 s → N ≡ emptied M → P → Reflects S M [] N P (drafts s)
+pub begins : (S : ℕ) (M N : Meaning) (P : Type 0) (s : System) → Fresh S 1 0 s → N ≡ emptied M → P → Reflects S M [] N P (drafting s)
 begins S M N P s f e p = record {
   source_is = e;
   sound = p;
@@ -52,7 +48,7 @@ module _ (S : ℕ) (M : Meaning) (h : List Given) (N : Meaning) (P : Type 0) (d 
   pub refused : (c : Given) (f : Fault) → decides S M h c ≡ Err f → Replied S M h c (Err f) N P d
   refused c f e = record { said = sym e; left = q }
 
-  pub opened : (n k : ℕ) (s : System) (N' : Meaning) (P' : Type 0) → first_no (opening_questions n k) ≡ None → Fresh S n k s → N' ≡ emptied N → P' → Replied S M h (opening n k) (Ok Done) N' P' (drafts s)
+  pub opened : (n k : ℕ) (s : System) (N' : Meaning) (P' : Type 0) → first_no (opening_questions n k) ≡ None → Fresh S n k s → N' ≡ emptied N → P' → Replied S M h (opening n k) (Ok Done) N' P' (drafting s)
   unfolding decides
   opened n k s N' P' none f e p = record {
     said = ap (verdict fault.Figures) (sym none);
@@ -106,7 +102,7 @@ module _ (S : ℕ) (M : Meaning) (h : List Given) (N : Meaning) (P : Type 0) (d 
     | inr e ↦ rw (cond-false (same p r) (posted h r +ℤ a) (posted h r) e) (q.limited r)
   ]
 
-  pub taken_in : (p : Place) (a : ℤ) (N' : Meaning) (P' : Type 0) → has_place d.figures.states d.figures.settings p ≡ true → leb (nat_abs (told N p +ℤ a)) (wholes p * S) ≡ true → Posting N p a (Ok tt) N' → P' → Replied S M h (post p a) (Ok Done) N' P' (drafts d.figures)
+  pub taken_in : (p : Place) (a : ℤ) (N' : Meaning) (P' : Type 0) → has_place d.figures.states d.figures.settings p ≡ true → leb (nat_abs (told N p +ℤ a)) (wholes p * S) ≡ true → Posting N p a (Ok tt) N' → P' → Replied S M h (post p a) (Ok Done) N' P' (drafting d.figures)
   unfolding decides
   taken_in p a N' P' e l t s =
       let yes : first_no (place_questions S h p a) ≡ None = passes p a e l in
@@ -152,7 +148,7 @@ module _ (S : ℕ) (M : Meaning) (h : List Given) (N : Meaning) (P : Type 0) (d 
   asked_same : (v : ℕ) (low high : ℤ) → posts.range_questions d.figures v low high ≡ range_questions S h v low high
   asked_same v low high = rw (q.settings_is, q.units_is) refl
 
-  pub range_set : (v : ℕ) (low high : ℤ) (s : System) → first_no (posts.range_questions d.figures v low high) ≡ None → RangeSet d.figures s v low high → Replied S M h (range v low high) (Ok Done) N P (drafts s)
+  pub range_set : (v : ℕ) (low high : ℤ) (s : System) → first_no (posts.range_questions d.figures v low high) ≡ None → RangeSet d.figures s v low high → Replied S M h (range v low high) (Ok Done) N P (drafting s)
   unfolding decides
   range_set v low high s none f =
       let none' : first_no (range_questions S h v low high) ≡ None = subst (λ qs. first_no qs ≡ None) (asked_same v low high) none in

@@ -17,7 +17,7 @@ use Rattle.prepare.specs.Proposals as proposals
 use Rattle.prepare.specs.Proposals.{PreparedFor, Proposed, Tabled, game, guess_questions, iteration_questions, offer, residual_questions, table_questions}
 use Rattle.source.specs.declared.place.Place.{Place}
 use Rattle.source.specs.declared.place.Place.TheVariants as place
-use Rattle.source.specs.Meaning.{Meaning, told}
+use Rattle.source.specs.Meaning.{Kind, Meaning, matrix, payout, place_at, told}
 use Rattle.law.specs.declared.answer.Answer.TheVariants.{Done}
 use Rattle.law.specs.declared.fault.Fault.TheVariants as fault
 use Rattle.law.specs.Calls.{Given}
@@ -27,8 +27,7 @@ use Rattle.law.specs.Decides.{decides, has_place, propose_questions, verdict, wh
 use Rattle.law.proofs.Alike.{Alike, iteration_alike, residual_alike}
 use Rattle.docket.specs.declared.desk.Desk.{Desk}
 use Rattle.docket.specs.declared.desk.Stage.TheVariants.{Prepared as at_prepared}
-use Rattle.docket.specs.declared.filling.Kind.TheVariants.{Matrix, Payout}
-use Rattle.docket.specs.Filling.{FilledFrom, Reads, place_at, read_at}
+use Rattle.docket.specs.Filling.{FilledFrom, Reads, in_order, read_at}
 use Rattle.docket.specs.Reflects.{Reflects, Replied}
 use Rattle.docket.proofs.Drafts.{refused, told_is}
 
@@ -51,20 +50,24 @@ module _ (S : ℕ) (G K : Game) (H J : Proposal) (q : Alike G K H J) where
       ∙ ap (λ n. each (n * n) (λ t. ask (ends_within S 1 (iteration S K J (t / n) (t % n))) (IterationTooLarge (t / n) (t % n)))) q.states
 
 -- ---- places and their indices
-matrix_place : (v i j : ℕ) → i < 12 → j < 12 → place_at Matrix (matrix_index v i j) ≡ place.Matrix v i j
+matrix_place : (v i j : ℕ) → i < 12 → j < 12 → place_at matrix (matrix_index v i j) ≡ place.Matrix v i j
 matrix_place v i j h k =
     let a : matrix_index v i j / 144 ≡ v = omega arith in
     let b : (matrix_index v i j / 12) % 12 ≡ i = omega arith in
     let c : matrix_index v i j % 12 ≡ j = omega arith in
     cc
 
-payout_place : (v i : ℕ) → i < 12 → place_at Payout (payout_index v i) ≡ place.Payout v i
+payout_place : (v i : ℕ) → i < 12 → place_at payout (payout_index v i) ≡ place.Payout v i
 payout_place v i h =
     let a : payout_index v i / 12 ≡ v = omega arith in
     let b : payout_index v i % 12 ≡ i = omega arith in
     cc
 
 module _ (S : ℕ) (M : Meaning) (h : List Given) (N : Meaning) (P : Type 0) (d : Desk) (q : Reflects S M h N P d) where
+  -- a number is read at the place that stands at its index
+  in_place : (kind : Kind) (m : ℕ) (xs : List ℤ) → Reads d.figures N (in_order kind) m xs → (t : ℕ) → t < m → get_or xs t (pos 0) ≡ read_at d.figures N (place_at kind t)
+  in_place kind m xs r t l = let p = r t l in p.2 ∙ ap (read_at d.figures N) p.1
+
   -- what is read at a place of the game was posted there
   read_posted : (p : Place) → has_place d.figures.states d.figures.settings p ≡ true → read_at d.figures N p ≡ posted h p
   read_posted p e = cond-true (has_place d.figures.states d.figures.settings p) (told N p) (pos 0) e ∙ told_is S M h N P d q p
@@ -77,20 +80,20 @@ module _ (S : ℕ) (M : Meaning) (h : List Given) (N : Meaning) (P : Type 0) (d 
   ]
 
   -- so no number that was read is beyond its limit
-  never_beyond : (matrix payouts : List ℤ) → length matrix ≡ 1296 → length payouts ≡ 108 → Reads d.figures N Matrix 1296 matrix → Reads d.figures N Payout 108 payouts → (f : system.Fault) → Beyond d.figures matrix payouts f → ⊥
-  never_beyond matrix payouts lm lp rm rp f (in_matrix i b) = elim (cases_lt i 1296) [
-    | inl l ↦ let w : nat_abs (get_or matrix i (pos 0)) ≤ 1 * S = subst (λ z. nat_abs z ≤ 1 * S) (sym (rm i l)) (read_within (place_at Matrix i)) in omega (arith, b.beyond, w, q.units_is)
-    | inr l ↦ let z : get_or matrix i (pos 0) ≡ pos 0 = get_or_past matrix i (pos 0) (omega (arith, lm, l)) in let w : nat_abs (get_or matrix i (pos 0)) ≤ 0 = rw z (omega arith) in omega (arith, b.beyond, w)
+  never_beyond : (xs ys : List ℤ) → length xs ≡ 1296 → length ys ≡ 108 → Reads d.figures N (in_order matrix) 1296 xs → Reads d.figures N (in_order payout) 108 ys → (f : system.Fault) → Beyond d.figures xs ys f → ⊥
+  never_beyond xs ys lm lp rm rp f (in_matrix i b) = elim (cases_lt i 1296) [
+    | inl l ↦ let w : nat_abs (get_or xs i (pos 0)) ≤ 1 * S = subst (λ z. nat_abs z ≤ 1 * S) (sym (in_place matrix 1296 xs rm i l)) (read_within (place_at matrix i)) in omega (arith, b.beyond, w, q.units_is)
+    | inr l ↦ let z : get_or xs i (pos 0) ≡ pos 0 = get_or_past xs i (pos 0) (omega (arith, lm, l)) in let w : nat_abs (get_or xs i (pos 0)) ≤ 0 = rw z (omega arith) in omega (arith, b.beyond, w)
   ]
-  never_beyond matrix payouts lm lp rm rp f (in_payouts i small b) = elim (cases_lt i 108) [
-    | inl l ↦ let w : nat_abs (get_or payouts i (pos 0)) ≤ 100 * S = subst (λ z. nat_abs z ≤ 100 * S) (sym (rp i l)) (read_within (place_at Payout i)) in omega (arith, b.beyond, w, q.units_is)
-    | inr l ↦ let z : get_or payouts i (pos 0) ≡ pos 0 = get_or_past payouts i (pos 0) (omega (arith, lp, l)) in let w : nat_abs (get_or payouts i (pos 0)) ≤ 0 = rw z (omega arith) in omega (arith, b.beyond, w)
+  never_beyond xs ys lm lp rm rp f (in_payouts i small b) = elim (cases_lt i 108) [
+    | inl l ↦ let w : nat_abs (get_or ys i (pos 0)) ≤ 100 * S = subst (λ z. nat_abs z ≤ 100 * S) (sym (in_place payout 108 ys rp i l)) (read_within (place_at payout i)) in omega (arith, b.beyond, w, q.units_is)
+    | inr l ↦ let z : get_or ys i (pos 0) ≡ pos 0 = get_or_past ys i (pos 0) (omega (arith, lp, l)) in let w : nat_abs (get_or ys i (pos 0)) ≤ 0 = rw z (omega arith) in omega (arith, b.beyond, w)
   ]
 
   pub never_unfilled : (f : system.Fault) → FilledFrom d.figures N (Err f) → ⊥
-  never_unfilled f (matrix, payouts, lm, lp, rm, rp, b) = never_beyond matrix payouts lm lp rm rp f b
+  never_unfilled f (xs, ys, lm, lp, rm, rp, b) = never_beyond xs ys lm lp rm rp f b
 
-  module _ (s : System) (r g : List ℤ) (matrix payouts : List ℤ) (rm : Reads d.figures N Matrix 1296 matrix) (rp : Reads d.figures N Payout 108 payouts) (w : With d.figures matrix payouts s) where
+  module _ (s : System) (r g : List ℤ) (xs ys : List ℤ) (rm : Reads d.figures N (in_order matrix) 1296 xs) (rp : Reads d.figures N (in_order payout) 108 ys) (w : With d.figures xs ys s) where
     n_is : s.states ≡ states_of h
     n_is = w.kept.states ∙ q.states_is
 
@@ -106,12 +109,12 @@ module _ (S : ℕ) (M : Meaning) (h : List Given) (N : Meaning) (P : Type 0) (d 
     matrix_read : (v i j : ℕ) → v ≤ s.settings → i < s.states → j < s.states → get_or s.matrix (matrix_index v i j) (pos 0) ≡ posted h (place.Matrix v i j)
     matrix_read v i j a b c =
         let l : matrix_index v i j < 1296 = omega (arith, a, b, c, s.size.1, s.size.2) in
-        ap (λ xs. get_or xs (matrix_index v i j) (pos 0)) w.matrix_is ∙ rm (matrix_index v i j) l ∙ ap (read_at d.figures N) (matrix_place v i j (omega (arith, b, s.size.1)) (omega (arith, c, s.size.1))) ∙ read_posted (place.Matrix v i j) (has_matrix v i j a b c)
+        ap (λ xs. get_or xs (matrix_index v i j) (pos 0)) w.matrix_is ∙ in_place matrix 1296 xs rm (matrix_index v i j) l ∙ ap (read_at d.figures N) (matrix_place v i j (omega (arith, b, s.size.1)) (omega (arith, c, s.size.1))) ∙ read_posted (place.Matrix v i j) (has_matrix v i j a b c)
 
     payout_read : (v i : ℕ) → v ≤ s.settings → i < s.states → get_or s.payouts (payout_index v i) (pos 0) ≡ posted h (place.Payout v i)
     payout_read v i a b =
         let l : payout_index v i < 108 = omega (arith, a, b, s.size.1, s.size.2) in
-        ap (λ xs. get_or xs (payout_index v i) (pos 0)) w.payouts_is ∙ rp (payout_index v i) l ∙ ap (read_at d.figures N) (payout_place v i (omega (arith, b, s.size.1))) ∙ read_posted (place.Payout v i) (has_payout v i a b)
+        ap (λ xs. get_or xs (payout_index v i) (pos 0)) w.payouts_is ∙ in_place payout 108 ys rp (payout_index v i) l ∙ ap (read_at d.figures N) (payout_place v i (omega (arith, b, s.size.1))) ∙ read_posted (place.Payout v i) (has_payout v i a b)
 
     -- the figures that were filled are the posted equations
     alike : Alike (game s) (game_of h) (offer s.states r g) (offer (states_of h) r g)

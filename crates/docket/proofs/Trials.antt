@@ -5,7 +5,7 @@ use Rattle.span.specs.declared.span.Span.{Span}
 use Rattle.span.specs.Intervals.{point, ◌+ᵢ◌}
 use Rattle.span.specs.Questions.{ask, first_no}
 use Rattle.system.specs.Figures.{spans}
-use Rattle.method.specs.Method.{Game, Halved, Proposal}
+use Rattle.method.specs.Method.{Game, Proposal}
 use Rattle.method.specs.Trials.{accepts, boxes}
 use Rattle.prepare.specs.declared.prepared.Prepared.{Prepared}
 use Rattle.prepare.specs.Proposals.{Tabled}
@@ -33,10 +33,6 @@ use Rattle.docket.proofs.Drafts.{refused}
 cond_no : {F : Type 0} (b : Bool) (f k : F) → cond b None (Some f) ≡ Some k → (b ≡ false) × (f ≡ k)
 cond_no true f k e = let z : ◌≡◌ {A = ℕ} 0 1 = cc in absurd (omega arith)
 cond_no false f k e = (refl, cc)
-
--- only one proposal stands
-pub half_of : (S : ℕ) (h : List Given) (o o' : Offer) → stands h ≡ Some o → stands h ≡ Some o' → Halved S (game_of h) (offered h o') → Halved S (game_of h) (offered h o)
-half_of S h o o' a b half = let w : o' ≡ o = cc in subst (λ z. Halved S (game_of h) (offered h z)) w half
 
 -- the one question that there is was answered no
 only_no : {F : Type 0} (b : Bool) (f k : F) → first_no (ask b f ∷ []) ≡ Some k → (b ≡ false) × (f ≡ k)
@@ -180,7 +176,3 @@ module _ (S : ℕ) (M : Meaning) (h : List Given) (N : Meaning) (P : Type 0) (d 
         let n = only_no _ _ f t in
         let y : ltb i (states_of h) ≡ false = subst (λ n. ltb i n ≡ false) s.enclosure_is.held.of.states n.0 in
         ap (λ z. Err (fault.Trial z)) (sym n.1) ∙ sym (cond-false (ltb i (states_of h)) _ _ y) ∙ sym (ap (λ x. row_decided S h x i) s.holds_is)
-
-  -- nothing is told where nothing is held
-  pub row_unheld : (i : ℕ) → holds S h ≡ None → Told S h i (Err fault.NotHeld)
-  row_unheld i e = sym (ap (λ x. row_decided S h x i) e)

@@ -1,2 +1,3 @@
+pub mod Dockets
 pub mod Filling
 pub mod Reflects

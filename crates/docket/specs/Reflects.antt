@@ -6,6 +6,7 @@ use Rattle.prepare.specs.declared.prepared.Prepared as prepare
 use Rattle.prepare.specs.Proposals.{PreparedFor, Tabled}
 use Rattle.enclosure.specs.declared.enclosure.Enclosure.{Enclosure}
 use Rattle.enclosure.specs.Enclosures.{Encloses, size_questions}
+use Rattle.system.specs.declared.system.System.{System}
 use Rattle.system.specs.Figures.{spans}
 use Rattle.source.specs.declared.place.Place.{Place}
 use Rattle.source.specs.Meaning.{Meaning}
@@ -46,6 +47,10 @@ abbrev pub enclosure_of : Stage → Option Enclosure
 enclosure_of Drafting = None
 enclosure_of (Prepared p) = None
 enclosure_of (Holding e) = Some e
+
+-- the desk of a game where no proposal stands
+abbrev pub drafting : System → Desk
+drafting s = record { figures = s; stage = Drafting }
 
 -- after the calls h, over a source that meant M when it was new: its source means N and is sound (P), its desk is d
 pub record Reflects (S : ℕ) (M : Meaning) (h : List Given) (N : Meaning) (P : Type 0) (d : Desk) : Type 0 where

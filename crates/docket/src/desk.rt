@@ -1,4 +1,7 @@
 // What a docket keeps besides its source.
+ghost use Rattle.std.specs.Prelude.{◌≡◌};
+ghost use Rattle.docket.specs.Reflects.{drafting};
+
 use enclosure::Enclosure;
 use prepare::Prepared;
 use system::System;
@@ -20,4 +23,16 @@ pub enum Stage {
 pub struct Desk {
     pub(crate) figures: System,
     pub(crate) stage: Stage,
+}
+
+impl Desk {
+    // The desk of these figures, where no proposal stands.
+    pub(crate) fn drafting(figures: System) -> Desk
+        ensures { result ≡ drafting figures }
+    {
+        Desk {
+            figures,
+            stage: Stage::Drafting,
+        }
+    }
 }

@@ -1,36 +1,37 @@
 // The figures of a game with the coefficients that its source holds.
-ghost use Rattle.std.specs.Prelude.{◌≡◌, ℕ, ◌<◌, length, pos};
-ghost use Rattle.source.specs.Meaning.{told};
+ghost use Rattle.std.specs.Prelude.{◌≡◌, length};
+ghost use Rattle.source.specs.Meaning.{matrix, payout, place_at, told};
 ghost use Rattle.law.specs.Decides.{has_place};
-ghost use Rattle.docket.specs.Filling.{FilledFrom, Reads, place_at, read_at};
+ghost use Rattle.docket.specs.Filling.{FilledFrom, Reads, read_at};
 
 use source::{Place, Source};
 use system::System;
-
-#[derive(Clone, Copy)]
-pub(crate) enum Kind {
-    Matrix,
-    Payout,
-}
 
 // The figures with the source's coefficients at the places of the game, and 0 elsewhere.
 pub(crate) fn filled<C: Source>(figures: &System, source: &C) -> Result<System, system::Fault>
     ensures { FilledFrom figures.now (C.Source.meaning source.now) result }
 {
     let mut matrix = [0; 1296];
-    read(figures, source, Kind::Matrix, &mut matrix);
+    read(figures, source, matrix_place, &mut matrix);
     let mut payouts = [0; 108];
-    read(figures, source, Kind::Payout, &mut payouts);
+    read(figures, source, payout_place, &mut payouts);
     figures.filled(&matrix, &payouts)
 }
 
-// Each number from the place at its index.
-fn read<C: Source>(figures: &System, source: &C, kind: Kind, numbers: &mut [i32])
+// Each number from the place at its index. An array made by a call at each index would need no loop,
+// but what is known of it names all 1296 calls, which is too long to prove from.
+fn read<C: Source, F: Fn(usize) -> Place>(
+    figures: &System,
+    source: &C,
+    place_at: F,
+    numbers: &mut [i32],
+)
+    requires { F.IsAlwaysCallable place_at }
     ensures long { length numbers.new ≡ length numbers.old }
-    ensures reads { Reads figures.now (C.Source.meaning source.now) kind (length numbers.old) numbers.new }
+    ensures reads { Reads figures.now (C.Source.meaning source.now) (F.post place_at) (length numbers.old) numbers.new }
 {
-    for at in 0..numbers.len() {
-        numbers[at] = number_at(figures, source, place_at(kind, at));
+    for (at, number) in numbers.iter_mut().enumerate() {
+        *number = number_at(figures, source, place_at(at));
     }
 }
 
@@ -44,19 +45,24 @@ fn number_at<C: Source>(figures: &System, source: &C, place: Place) -> i32
     }
 }
 
-fn place_at(kind: Kind, at: usize) -> Place
-    ensures { result ≡ place_at kind at }
+// The place whose number stands at an index of the matrix.
+fn matrix_place(at: usize) -> Place
+    ensures { result ≡ place_at matrix at }
 {
-    match kind {
-        Kind::Matrix => Place::Matrix {
-            part: at / 144,
-            row: at / 12 % 12,
-            column: at % 12,
-        },
-        Kind::Payout => Place::Payout {
-            part: at / 12,
-            row: at % 12,
-        },
+    Place::Matrix {
+        part: at / 144,
+        row: at / 12 % 12,
+        column: at % 12,
+    }
+}
+
+// The place whose number stands at an index of the payouts.
+fn payout_place(at: usize) -> Place
+    ensures { result ≡ place_at payout at }
+{
+    Place::Payout {
+        part: at / 12,
+        row: at % 12,
     }
 }
 

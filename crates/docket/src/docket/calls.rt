@@ -4,7 +4,8 @@ ghost use Rattle.source.specs.Meaning.{Meaning};
 ghost use Rattle.system.specs.Posts.{Fresh};
 ghost use Rattle.law.specs.Calls.{Given, given};
 ghost use Rattle.law.specs.Law.{AtOnce};
-ghost use Rattle.docket.specs.Reflects.{Reflects, Replied, Told, Unmoved};
+ghost use Rattle.docket.specs.Dockets.{After, Answers};
+ghost use Rattle.docket.specs.Reflects.{Told, Unmoved};
 
 use super::Docket;
 use crate::desk::{Desk, Stage};
@@ -17,24 +18,22 @@ use system::System;
 impl<C: Source, T: Scale> Docket<C, T> {
     // A new docket empties its source, has one state and no setting, and drafts.
     pub fn new(mut source: C) -> Docket<C, T>
-        ensures { Reflects T.Scale.unit (C.Source.meaning source) [] (C.Source.meaning result.source) (C.Source.sound result.source) result.desk }
+        ensures { After C.Source T.Scale.unit (C.Source.meaning source) [] result }
     {
         source.empty();
         Docket {
             source,
-            desk: Desk {
-                figures: smallest::<T>(),
-                stage: Stage::Drafting,
-            },
+            desk: Desk::drafting(smallest::<T>()),
             scale: PhantomData,
         }
     }
 
-    // What a call does depends on the stage and the call together.
+    // What a call does depends on the stage and the call together. Each pair that is turned down has
+    // an arm of its own, since in an arm for two of them the proof does not know which it was.
     pub fn call(&mut self, call: Call<'_>) -> Result<Answer, Fault>
         ensures unmoved { Unmoved result self.old.desk self.new.desk }
-        ensures replied { (M : Meaning) (h : List Given) → Reflects T.Scale.unit M h (C.Source.meaning self.old.source) (C.Source.sound self.old.source) self.old.desk → Replied T.Scale.unit M h (given call.entry) result (C.Source.meaning self.new.source) (C.Source.sound self.new.source) self.new.desk }
-        ensures at_once { (M : Meaning) (h : List Given) → Reflects T.Scale.unit M h (C.Source.meaning self.old.source) (C.Source.sound self.old.source) self.old.desk → AtOnce T.Scale.unit h (given call.entry) result }
+        ensures replied { Answers C.Source T.Scale.unit (given call.entry) result self.old self.new }
+        ensures at_once { (M : Meaning) (h : List Given) → After C.Source T.Scale.unit M h self.old → AtOnce T.Scale.unit h (given call.entry) result }
     {
         match (&self.desk.stage, call) {
             (_, Call::Open { states, settings }) => self.open(states, settings),
@@ -42,42 +41,26 @@ impl<C: Source, T: Scale> Docket<C, T> {
             (_, Call::Range { part, low, high }) => self.set_range(part, low, high),
             (_, Call::Propose { table, guesses }) => self.propose(table, guesses),
             (Stage::Drafting, Call::Try { .. }) => Err(Fault::NoProposal),
-            (Stage::Prepared(prepared), Call::Try { numbers }) => {
-                let prepared = *prepared;
-                self.attempt(&prepared, numbers)
-            }
-            (Stage::Holding(held), Call::Try { numbers }) => {
-                let prepared = *held.prepared();
-                self.attempt(&prepared, numbers)
+            (&Stage::Prepared(prepared), Call::Try { numbers }) => self.attempt(&prepared, numbers),
+            (&Stage::Holding(held), Call::Try { numbers }) => {
+                self.attempt(held.prepared(), numbers)
             }
             (Stage::Drafting, Call::Run { .. }) => Err(Fault::NoProposal),
-            (Stage::Prepared(prepared), Call::Run { trials }) => {
-                let prepared = *prepared;
-                self.run(&prepared, trials)
-            }
-            (Stage::Holding(held), Call::Run { trials }) => {
-                let prepared = *held.prepared();
-                self.run(&prepared, trials)
-            }
+            (&Stage::Prepared(prepared), Call::Run { trials }) => self.run(&prepared, trials),
+            (&Stage::Holding(held), Call::Run { trials }) => self.run(held.prepared(), trials),
             (Stage::Drafting, Call::Narrow) => Err(Fault::NotHeld),
             (Stage::Prepared(_), Call::Narrow) => Err(Fault::NotHeld),
-            (Stage::Holding(held), Call::Narrow) => {
-                let held = *held;
-                self.narrow(held)
-            }
+            (&Stage::Holding(held), Call::Narrow) => self.narrow(held),
         }
     }
 
     // The held range of a row.
     pub fn row(&self, row: usize) -> Result<Span, Fault>
-        ensures { (M : Meaning) (h : List Given) → Reflects T.Scale.unit M h (C.Source.meaning self.now.source) (C.Source.sound self.now.source) self.now.desk → Told T.Scale.unit h row result }
+        ensures { (M : Meaning) (h : List Given) → After C.Source T.Scale.unit M h self.now → Told T.Scale.unit h row result }
     {
         match &self.desk.stage {
             Stage::Drafting | Stage::Prepared(_) => Err(Fault::NotHeld),
-            Stage::Holding(held) => match held.row(row) {
-                Ok(range) => Ok(range),
-                Err(fault) => Err(Fault::Trial(fault)),
-            },
+            Stage::Holding(held) => Ok(held.row(row)?),
         }
     }
 }
@@ -86,8 +69,5 @@ impl<C: Source, T: Scale> Docket<C, T> {
 fn smallest<T: Scale>() -> System
     ensures { Fresh T.Scale.unit 1 0 result }
 {
-    match System::new::<T>(1, 0) {
-        Ok(figures) => figures,
-        Err(_) => unreachable(),
-    }
+    System::new::<T>(1, 0).unwrap()
 }

@@ -1,18 +1,17 @@
 // Calls that leave a docket drafting: opening, posting, and setting a range.
-ghost use Rattle.std.specs.Prelude.{◌≡◌, ◌*◌, true, List, ◌+ℤ◌, OnOk, nat_le, unsigned_abs};
+ghost use Rattle.std.specs.Prelude.{◌≡◌, ◌*◌, ◌^◌, ◌<◌, true, OnOk};
 ghost use Rattle.system.specs.Posts.{is_size};
-ghost use Rattle.source.specs.Meaning.{Meaning};
-ghost use Rattle.law.specs.Calls.{Given};
 ghost use Rattle.law.specs.Calls.Given.{opening, post, range};
 ghost use Rattle.law.specs.Decides.{wholes};
-ghost use Rattle.docket.specs.Reflects.{Reflects, Replied, Unmoved};
+ghost use Rattle.docket.specs.Dockets.{Answers};
+ghost use Rattle.docket.specs.Reflects.{Unmoved};
 
 use super::Docket;
 use crate::desk::{Desk, Stage};
 use crate::filling::{coefficient, has_place};
 use law::{Answer, Fault};
 use source::{Place, Source};
-use span::Scale;
+use span::{Scale, sum_within};
 use system::System;
 
 impl<C: Source, T: Scale> Docket<C, T> {
@@ -20,73 +19,51 @@ impl<C: Source, T: Scale> Docket<C, T> {
     pub fn open(&mut self, states: usize, settings: usize) -> Result<Answer, Fault>
         ensures sized { OnOk result (is_size states settings ≡ true) }
         ensures unmoved { Unmoved result self.old.desk self.new.desk }
-        ensures replied { (M : Meaning) (h : List Given) → Reflects T.Scale.unit M h (C.Source.meaning self.old.source) (C.Source.sound self.old.source) self.old.desk → Replied T.Scale.unit M h (opening states settings) result (C.Source.meaning self.new.source) (C.Source.sound self.new.source) self.new.desk }
+        ensures replied { Answers C.Source T.Scale.unit (opening states settings) result self.old self.new }
     {
-        match System::new::<T>(states, settings) {
-            Ok(figures) => {
-                self.source.empty();
-                self.desk = Desk {
-                    figures,
-                    stage: Stage::Drafting,
-                };
-                Ok(Answer::Done)
-            }
-            Err(fault) => Err(Fault::Figures(fault)),
-        }
+        let figures = System::new::<T>(states, settings)?;
+        self.source.empty();
+        self.desk = Desk::drafting(figures);
+        Ok(Answer::Done)
     }
 
     // Adds an amount at a place.
     pub(crate) fn post(&mut self, place: Place, amount: i32) -> Result<Answer, Fault>
         ensures unmoved { Unmoved result self.old.desk self.new.desk }
-        ensures replied { (M : Meaning) (h : List Given) → Reflects T.Scale.unit M h (C.Source.meaning self.old.source) (C.Source.sound self.old.source) self.old.desk → Replied T.Scale.unit M h (post place amount) result (C.Source.meaning self.new.source) (C.Source.sound self.new.source) self.new.desk }
+        ensures replied { Answers C.Source T.Scale.unit (post place amount) result self.old self.new }
     {
         if !has_place(&self.desk.figures, place) {
-            return Err(Fault::Figures(system::Fault::Outside(place.spot())));
+            return Err(system::Fault::Outside(place.spot()).into());
         }
-        if !sum_within::<T>(place, coefficient(&self.source, place), amount) {
-            return Err(Fault::Figures(system::Fault::SumTooLarge(place.spot())));
+        let held = coefficient(&self.source, place);
+        if sum_within(largest::<T>(place), held, amount).is_none() {
+            return Err(system::Fault::SumTooLarge(place.spot()).into());
         }
-        match self.source.post(place, amount) {
-            Ok(()) => {
-                self.desk.stage = Stage::Drafting;
-                Ok(Answer::Done)
-            }
-            Err(fault) => Err(Fault::Source(fault)),
-        }
+        self.source.post(place, amount)?;
+        self.desk.stage = Stage::Drafting;
+        Ok(Answer::Done)
     }
 
     // Sets the range of one setting.
     pub(crate) fn set_range(&mut self, part: usize, low: i32, high: i32) -> Result<Answer, Fault>
         ensures unmoved { Unmoved result self.old.desk self.new.desk }
-        ensures replied { (M : Meaning) (h : List Given) → Reflects T.Scale.unit M h (C.Source.meaning self.old.source) (C.Source.sound self.old.source) self.old.desk → Replied T.Scale.unit M h (range part low high) result (C.Source.meaning self.new.source) (C.Source.sound self.new.source) self.new.desk }
+        ensures replied { Answers C.Source T.Scale.unit (range part low high) result self.old self.new }
     {
         let mut figures = self.desk.figures;
-        match figures.set_range(part, low, high) {
-            Ok(()) => {
-                self.desk = Desk {
-                    figures,
-                    stage: Stage::Drafting,
-                };
-                Ok(Answer::Done)
-            }
-            Err(fault) => Err(Fault::Figures(fault)),
-        }
+        figures.set_range(part, low, high)?;
+        self.desk = Desk::drafting(figures);
+        Ok(Answer::Done)
     }
 }
 
-// Is the new sum within one whole (matrix) or 100 wholes (payout)?
-fn sum_within<T: Scale>(place: Place, held: i32, amount: i32) -> bool
-    ensures { result ≡ nat_le (unsigned_abs (held +ℤ amount)) (wholes place * T.Scale.unit) }
+// The largest size of a sum at a place: one whole (matrix) or 100 wholes (payout).
+fn largest<T: Scale>(place: Place) -> u32
+    ensures value { result ≡ wholes place * T.Scale.unit }
+    ensures small { result < 2 ^ 31 }
 {
-    let sum = i64::from(held) + i64::from(amount);
-    sum.unsigned_abs() <= wholes(place) * T::units().unsigned_abs()
-}
-
-fn wholes(place: Place) -> u64
-    ensures { result ≡ wholes place }
-{
-    match place {
+    let wholes = match place {
         Place::Matrix { .. } => 1,
         Place::Payout { .. } => 100,
-    }
+    };
+    wholes * T::units() as u32
 }

@@ -38,12 +38,12 @@ impl<C: Source, T: Scale> Docket<C, T> {
     pub fn range(&self, part: usize) -> Span
         ensures { ends result ≡ spans self.now.desk.figures.ranges part }
     {
-        let ranges = self.desk.figures.ranges();
-        if part < ranges.len() {
-            ranges[part]
-        } else {
-            Span::point(0)
-        }
+        self.desk
+            .figures
+            .ranges()
+            .get(part)
+            .copied()
+            .unwrap_or_default()
     }
 
     // What gives the held ranges, while there are any.
