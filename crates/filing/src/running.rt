@@ -2,7 +2,7 @@
 ghost use Rattle.std.specs.Prelude.{◌≡◌, List, [], replicate, IfOk, if◌then◌else◌};
 ghost use Rattle.source.specs.Meaning.{Meaning};
 ghost use Rattle.law.specs.Calls.{Given};
-ghost use Rattle.docket.specs.Reflects.{Reflects};
+ghost use Rattle.docket.specs.Dockets.{After, Of};
 ghost use Rattle.filing.specs.Law.{Lawful, WroteRight, asked, bytes_in, turn, turns};
 ghost use Rattle.filing.specs.Law.Turn.{checked};
 ghost use Rattle.filing.specs.Turns.{Turned};
@@ -37,7 +37,7 @@ fn taken<C: Source, T: Scale, F: Scale>(
     docket: &mut Docket<C, T>,
     step: Step<'_>,
 ) -> Result<Outcome, AllocError>
-    ensures { IfOk result (λ o. ((M : Meaning) (h : List Given) → Reflects T.Scale.unit M h (C.Source.meaning docket.old.source) (C.Source.sound docket.old.source) docket.old.desk → Turned T.Scale.unit M h (turn T.Scale.unit F.Scale.unit step.entry o) (C.Source.meaning docket.new.source) (C.Source.sound docket.new.source) docket.new.desk)) }
+    ensures { IfOk result (λ o. ((M : Meaning) (h : List Given) → After C.Source T.Scale.unit M h docket.old → Of C.Source docket.new (Turned T.Scale.unit M h (turn T.Scale.unit F.Scale.unit step.entry o)))) }
 {
     match step {
         Step::Asking(ask) => Ok(Outcome::Replied(answered(docket, ask))),
@@ -50,7 +50,7 @@ fn taken<C: Source, T: Scale, F: Scale>(
 
 // What a call or the asking for a row is answered.
 fn answered<C: Source, T: Scale>(docket: &mut Docket<C, T>, ask: Ask<'_>) -> Reply
-    ensures { (M : Meaning) (h : List Given) → Reflects T.Scale.unit M h (C.Source.meaning docket.old.source) (C.Source.sound docket.old.source) docket.old.desk → Turned T.Scale.unit M h (asked ask.entry result) (C.Source.meaning docket.new.source) (C.Source.sound docket.new.source) docket.new.desk }
+    ensures { (M : Meaning) (h : List Given) → After C.Source T.Scale.unit M h docket.old → Of C.Source docket.new (Turned T.Scale.unit M h (asked ask.entry result)) }
 {
     match ask {
         Ask::Make(call) => Reply::Made(docket.call(call)),
@@ -64,7 +64,7 @@ fn checked_for<C: Source, T: Scale, F: Scale>(
     bytes: &[u8],
     own: bool,
 ) -> Result<Rechecked, sheet::Fault>
-    ensures { (M : Meaning) (h : List Given) → Reflects T.Scale.unit M h (C.Source.meaning docket.old.source) (C.Source.sound docket.old.source) docket.old.desk → Turned T.Scale.unit M h (checked (if own then T.Scale.unit else F.Scale.unit) bytes.now result) (C.Source.meaning docket.new.source) (C.Source.sound docket.new.source) docket.new.desk }
+    ensures { (M : Meaning) (h : List Given) → After C.Source T.Scale.unit M h docket.old → Of C.Source docket.new (Turned T.Scale.unit M h (checked (if own then T.Scale.unit else F.Scale.unit) bytes.now result)) }
 {
     if own {
         rechecked::<C, T, T>(docket, bytes)
@@ -78,7 +78,7 @@ fn rechecked<C: Source, T: Scale, G: Scale>(
     docket: &mut Docket<C, T>,
     bytes: &[u8],
 ) -> Result<Rechecked, sheet::Fault>
-    ensures { (M : Meaning) (h : List Given) → Reflects T.Scale.unit M h (C.Source.meaning docket.old.source) (C.Source.sound docket.old.source) docket.old.desk → Turned T.Scale.unit M h (checked G.Scale.unit bytes.now result) (C.Source.meaning docket.new.source) (C.Source.sound docket.new.source) docket.new.desk }
+    ensures { (M : Meaning) (h : List Given) → After C.Source T.Scale.unit M h docket.old → Of C.Source docket.new (Turned T.Scale.unit M h (checked G.Scale.unit bytes.now result)) }
 {
     match Framed::new::<G>(bytes) {
         Ok(framed) => framed.recheck(docket),
@@ -92,7 +92,7 @@ fn wrote<C: Source, T: Scale>(
     docket: &Docket<C, T>,
     room: usize,
 ) -> Result<Result<Vec<u8>, sheet::Fault>, AllocError>
-    ensures { IfOk result (λ o. ((M : Meaning) (h : List Given) → Reflects T.Scale.unit M h (C.Source.meaning docket.now.source) (C.Source.sound docket.now.source) docket.now.desk → WroteRight T.Scale.unit h room (bytes_in o))) }
+    ensures { IfOk result (λ o. ((M : Meaning) (h : List Given) → After C.Source T.Scale.unit M h docket.now → WroteRight T.Scale.unit h room (bytes_in o))) }
 {
     let mut buffer = blank(heap, room)?;
     match write(docket, buffer.as_mut_slice()) {

@@ -6,7 +6,7 @@ ghost use Rattle.method.specs.Method.{size};
 ghost use Rattle.system.specs.Figures.{spans};
 ghost use Rattle.source.specs.Meaning.{Meaning};
 ghost use Rattle.law.specs.Calls.{Given};
-ghost use Rattle.docket.specs.Reflects.{Reflects};
+ghost use Rattle.docket.specs.Dockets.{After, Of};
 ghost use Rattle.sheet.specs.Again.{RechecksAgain};
 ghost use Rattle.sheet.specs.Bytes.{unsigned_at};
 ghost use Rattle.sheet.specs.Layout.{at_trailer, distance, sheet_length};
@@ -26,8 +26,8 @@ use span::{Scale, Span};
 pub fn write<C: Source, T: Scale>(docket: &Docket<C, T>, buffer: &mut [u8]) -> Result<usize, Fault>
     ensures unchanged { elim result [ Ok l ↦ Unit {0} | Err f ↦ buffer.new ≡ buffer.old ] }
     ensures long { length buffer.new ≡ length buffer.old }
-    ensures written { (M : Meaning) (h : List Given) → Reflects T.Scale.unit M h (C.Source.meaning docket.now.source) (C.Source.sound docket.now.source) docket.now.desk → Writing T.Scale.unit h buffer.old buffer.new result }
-    ensures again { (M : Meaning) (h : List Given) → Reflects T.Scale.unit M h (C.Source.meaning docket.now.source) (C.Source.sound docket.now.source) docket.now.desk → RechecksAgain T.Scale.unit h buffer.new result }
+    ensures written { (M : Meaning) (h : List Given) → After C.Source T.Scale.unit M h docket.now → Writing T.Scale.unit h buffer.old buffer.new result }
+    ensures again { (M : Meaning) (h : List Given) → After C.Source T.Scale.unit M h docket.now → RechecksAgain T.Scale.unit h buffer.new result }
 {
     let Some(held) = docket.held() else {
         return Err(Fault::NotHeld);

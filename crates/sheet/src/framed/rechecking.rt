@@ -3,7 +3,7 @@ ghost use Rattle.std.specs.Prelude.{◌≡◌, ℕ, ◌≤◌, List, Ok};
 ghost use Rattle.source.specs.Meaning.{Meaning};
 ghost use Rattle.law.specs.Calls.{Given};
 ghost use Rattle.law.specs.Law.{told_ends};
-ghost use Rattle.docket.specs.Reflects.{Reflects};
+ghost use Rattle.docket.specs.Dockets.{After, Of};
 ghost use Rattle.sheet.specs.Again.{WritesAgain};
 ghost use Rattle.sheet.specs.Framing.{Framing, Passes, sheet_in};
 ghost use Rattle.sheet.specs.Rechecks.{claim_questions, is_claimed, left_by};
@@ -20,8 +20,8 @@ impl Framed<'_> {
     // Makes the sheet's calls on the docket. Turned down, it leaves the docket newly opened with
     // the sheet's n and k.
     pub fn recheck<C: Source, T: Scale>(self, docket: &mut Docket<C, T>) -> Result<Rechecked, Fault>
-        ensures rechecked { (M : Meaning) (h : List Given) → Reflects T.Scale.unit M h (C.Source.meaning docket.old.source) (C.Source.sound docket.old.source) docket.old.desk → Rechecking T.Scale.unit M h (sheet_in self.entry) result (C.Source.meaning docket.new.source) (C.Source.sound docket.new.source) docket.new.desk }
-        ensures again { (M : Meaning) (h : List Given) (u : ℕ) (bs : List ℕ) → Reflects T.Scale.unit M h (C.Source.meaning docket.old.source) (C.Source.sound docket.old.source) docket.old.desk → Framing u bs (Ok self.entry) → WritesAgain T.Scale.unit (left_by T.Scale.unit M h (sheet_in self.entry)) bs result }
+        ensures rechecked { (M : Meaning) (h : List Given) → After C.Source T.Scale.unit M h docket.old → Of C.Source docket.new (Rechecking T.Scale.unit M h (sheet_in self.entry) result) }
+        ensures again { (M : Meaning) (h : List Given) (u : ℕ) (bs : List ℕ) → After C.Source T.Scale.unit M h docket.old → Framing u bs (Ok self.entry) → WritesAgain T.Scale.unit (left_by T.Scale.unit M h (sheet_in self.entry)) bs result }
     {
         let n = usize::from(self.states);
         let k = usize::from(self.settings);
@@ -43,7 +43,7 @@ impl Framed<'_> {
     // On the docket as it was opened.
     fn proven<C: Source, T: Scale>(&self, docket: &mut Docket<C, T>) -> Result<Rechecked, Fault>
         requires { self.now.states ≤ 12 }
-        ensures { (M : Meaning) (h : List Given) → Reflects T.Scale.unit M h (C.Source.meaning docket.old.source) (C.Source.sound docket.old.source) docket.old.desk → AfterOpening T.Scale.unit M h (sheet_in self.now) result (C.Source.meaning docket.new.source) (C.Source.sound docket.new.source) docket.new.desk }
+        ensures { (M : Meaning) (h : List Given) → After C.Source T.Scale.unit M h docket.old → Of C.Source docket.new (AfterOpening T.Scale.unit M h (sheet_in self.now) result) }
     {
         if i64::from(self.units) != T::units() {
             return Err(Fault::OtherScale {
@@ -57,7 +57,7 @@ impl Framed<'_> {
 
     // Are the claims the ends that are held?
     fn claimed<C: Source, T: Scale>(&self, docket: &Docket<C, T>) -> Result<(), Fault>
-        ensures { (M : Meaning) (h : List Given) → Reflects T.Scale.unit M h (C.Source.meaning docket.now.source) (C.Source.sound docket.now.source) docket.now.desk → Passes (claim_questions (sheet_in self.now) T.Scale.unit h) result }
+        ensures { (M : Meaning) (h : List Given) → After C.Source T.Scale.unit M h docket.now → Passes (claim_questions (sheet_in self.now) T.Scale.unit h) result }
     {
         let layout = self.layout();
         for u in 0..2 * layout.states {
@@ -89,7 +89,7 @@ fn is_claimed(told: Result<Span, law::Fault>, end: usize, number: i32) -> bool
 // The held ranges, row by row.
 fn kept<C: Source, T: Scale>(docket: &Docket<C, T>, states: u8) -> Rechecked
     requires { states ≤ 12 }
-    ensures { (M : Meaning) (h : List Given) → Reflects T.Scale.unit M h (C.Source.meaning docket.now.source) (C.Source.sound docket.now.source) docket.now.desk → Keeps T.Scale.unit h states result }
+    ensures { (M : Meaning) (h : List Given) → After C.Source T.Scale.unit M h docket.now → Keeps T.Scale.unit h states result }
 {
     let mut ranges = [Span::point(0); 12];
     for row in 0..usize::from(states) {
