@@ -1,5 +1,5 @@
 // A span: a range of figures by its two ends.
-ghost use Rattle.std.specs.Prelude.{◌≡◌, ◌≤ℤ◌};
+ghost use Rattle.std.specs.Prelude.{◌≡◌, [], ◌∷◌, ◌≤ℤ◌};
 
 mod operations;
 
@@ -22,5 +22,12 @@ impl Span {
         ensures { result ≡ self.now.high }
     {
         self.high
+    }
+
+    // The low end and the high end.
+    pub fn ends(&self) -> [i64; 2]
+        ensures { result ≡ self.now.low ∷ self.now.high ∷ [] }
+    {
+        [self.low, self.high]
     }
 }
