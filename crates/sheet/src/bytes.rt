@@ -6,7 +6,7 @@ ghost use Rattle.sheet.specs.Bytes.{number_at, unsigned_at};
 pub(crate) fn byte_at(bytes: &[u8], at: usize) -> u8
     ensures { result ≡ slice_index bytes.now at }
 {
-    if at < bytes.len() { bytes[at] } else { 0 }
+    bytes.get(at).copied().unwrap_or_default()
 }
 
 pub(crate) fn unsigned_at(bytes: &[u8], at: usize) -> u32
@@ -25,12 +25,7 @@ pub(crate) fn number_at(bytes: &[u8], at: usize) -> i32
     requires { at + 3 < 2 ^ 64 }
     ensures { result ≡ number_at bytes.now at }
 {
-    i32::from_le_bytes([
-        byte_at(bytes, at),
-        byte_at(bytes, at + 1),
-        byte_at(bytes, at + 2),
-        byte_at(bytes, at + 3),
-    ])
+    unsigned_at(bytes, at).cast_signed()
 }
 
 // Writes an unsigned number, and leaves all other bytes.
@@ -56,9 +51,5 @@ pub(crate) fn put_number(bytes: &mut [u8], at: usize, x: i32)
     ensures before { (i : ℕ) → i < at → slice_index bytes.new i ≡ slice_index bytes.old i }
     ensures after { (i : ℕ) → at + 4 ≤ i → slice_index bytes.new i ≡ slice_index bytes.old i }
 {
-    let [a, b, c, d] = x.to_le_bytes();
-    bytes[at] = a;
-    bytes[at + 1] = b;
-    bytes[at + 2] = c;
-    bytes[at + 3] = d;
+    put_unsigned(bytes, at, x.cast_unsigned());
 }

@@ -1,11 +1,10 @@
 // What writing, framing or rechecking a sheet is turned down with.
 ghost use Rattle.std.specs.Prelude.{◌≡◌};
-ghost use Rattle.span.specs.Faults.{at};
 ghost use Rattle.sheet.specs.Faults.{byte, layer, number, place};
 
 use span::{Layer, Spot};
 
-#[derive(Clone, Copy)]
+#[derive(Clone, Copy, PartialEq, Eq, Debug)]
 pub enum Fault {
     // 14: no ranges are held, so there is nothing to write
     NotHeld,
@@ -58,9 +57,9 @@ impl Fault {
     {
         match self {
             Fault::Docket { fault, .. } => fault.place(),
-            Fault::OtherClaim { row, .. } => spot_of(*row),
-            Fault::NoRow { row } => spot_of(*row),
-            _ => spot_of(0),
+            Fault::OtherClaim { row, .. } => Spot::of_row(*row),
+            Fault::NoRow { row } => Spot::of_row(*row),
+            _ => Spot::default(),
         }
     }
 
@@ -72,19 +71,8 @@ impl Fault {
             Fault::OtherScale { byte } => byte,
             Fault::Head { byte } => byte,
             Fault::Length { byte } => byte,
-            Fault::OtherClaim { byte, .. } => byte,
-            Fault::Docket { byte, .. } => byte,
+            Fault::OtherClaim { byte, .. } | Fault::Docket { byte, .. } => byte,
             _ => 0,
         }
-    }
-}
-
-fn spot_of(row: usize) -> Spot
-    ensures { result ≡ at 0 row 0 }
-{
-    Spot {
-        part: 0,
-        row,
-        column: 0,
     }
 }

@@ -98,33 +98,25 @@ fn claim(held: &Enclosure, u: usize) -> i32
     }
 }
 
-// The figure at a place, 0 past the last.
+// What stands at a place, nothing past the last.
 fn figure_at(figures: &[i32], i: usize) -> i32
     ensures { result ≡ slice_index_or figures.now i (pos 0) }
 {
-    if i < figures.len() { figures[i] } else { 0 }
+    figures.get(i).copied().unwrap_or_default()
 }
 
-// The range at a place, 0..0 past the last.
 fn range_at(ranges: &[Span], i: usize) -> Span
     ensures { ends result ≡ spans ranges.now i }
 {
-    if i < ranges.len() {
-        ranges[i]
-    } else {
-        Span::point(0)
-    }
+    ranges.get(i).copied().unwrap_or_default()
 }
 
 // The low end (0) or the high end.
 fn end_of(range: Span, which: usize) -> i32
+    requires { which < 2 }
     ensures { size (ends range) < 2 ^ 31 → result ≡ end (ends range) which }
 {
-    let figure = if which == 0 {
-        range.low()
-    } else {
-        range.high()
-    };
+    let figure = range.ends()[which];
     i32::try_from(figure).unwrap_or(0)
 }
 

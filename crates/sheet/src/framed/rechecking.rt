@@ -1,5 +1,5 @@
 // Rechecking a framed sheet on a docket, which spends it.
-ghost use Rattle.std.specs.Prelude.{◌≡◌, ℕ, ◌≤◌, List, Ok};
+ghost use Rattle.std.specs.Prelude.{◌≡◌, ℕ, ◌<◌, ◌≤◌, List, Ok};
 ghost use Rattle.source.specs.Meaning.{Meaning};
 ghost use Rattle.law.specs.Calls.{Given};
 ghost use Rattle.law.specs.Law.{told_ends};
@@ -75,13 +75,11 @@ impl Framed<'_> {
 
 // Is the number the low end (0) or the high end of what was told?
 fn is_claimed(told: Result<Span, law::Fault>, end: usize, number: i32) -> bool
+    requires { end < 2 }
     ensures { result ≡ is_claimed (told_ends told) end number }
 {
     match told {
-        Ok(range) => {
-            let held = if end == 0 { range.low() } else { range.high() };
-            held == i64::from(number)
-        }
+        Ok(range) => range.ends()[end] == i64::from(number),
         Err(_) => false,
     }
 }

@@ -7,7 +7,7 @@ ghost use Rattle.docket.specs.Dockets.{After, Of};
 ghost use Rattle.sheet.specs.Framing.{sheet_in};
 ghost use Rattle.sheet.specs.Layout.{at_box, at_ranges, at_table};
 ghost use Rattle.sheet.specs.Rechecks.{calls_of, gathered, narrow_at, post_of, proposal_of, range_at, read, trial_of};
-ghost use Rattle.sheet.specs.Remakes.{Remade, as_made};
+ghost use Rattle.sheet.specs.Remakes.{Remakes, as_made};
 
 use super::Framed;
 use crate::bytes::number_at;
@@ -36,7 +36,7 @@ impl Framed<'_> {
     // The calls after the opening, until one is turned down.
     pub(crate) fn remake<C: Source, T: Scale>(&self, docket: &mut Docket<C, T>) -> Result<(), Fault>
         requires { self.now.states ≤ 12 }
-        ensures { (M : Meaning) (h : List Given) → After C.Source T.Scale.unit M h docket.old → Of C.Source docket.new (Remade T.Scale.unit M h (calls_of (sheet_in self.now)) result) }
+        ensures { Remakes C.Source T.Scale.unit (calls_of (sheet_in self.now)) result docket.old docket.new }
     {
         self.post_all(docket)?;
         self.set_ranges(docket)?;
@@ -47,7 +47,7 @@ impl Framed<'_> {
 
     // A post for each coefficient other than 0.
     fn post_all<C: Source, T: Scale>(&self, docket: &mut Docket<C, T>) -> Result<(), Fault>
-        ensures { (M : Meaning) (h : List Given) → After C.Source T.Scale.unit M h docket.old → Of C.Source docket.new (Remade T.Scale.unit M h (gathered (at_ranges self.now.states self.now.settings) (post_of (sheet_in self.now))) result) }
+        ensures { Remakes C.Source T.Scale.unit (gathered (at_ranges self.now.states self.now.settings) (post_of (sheet_in self.now))) result docket.old docket.new }
     {
         for t in 0..self.layout().ranges() {
             self.post_one(docket, t)?;
@@ -61,7 +61,7 @@ impl Framed<'_> {
         t: usize,
     ) -> Result<(), Fault>
         requires { (0 < self.now.states) × (t ≤ 16778490) }
-        ensures { (M : Meaning) (h : List Given) → After C.Source T.Scale.unit M h docket.old → Of C.Source docket.new (Remade T.Scale.unit M h (post_of (sheet_in self.now) t) result) }
+        ensures { Remakes C.Source T.Scale.unit (post_of (sheet_in self.now) t) result docket.old docket.new }
     {
         let amount = self.number(t);
         if amount == 0 {
@@ -73,7 +73,7 @@ impl Framed<'_> {
 
     // Every setting's range.
     fn set_ranges<C: Source, T: Scale>(&self, docket: &mut Docket<C, T>) -> Result<(), Fault>
-        ensures { (M : Meaning) (h : List Given) → After C.Source T.Scale.unit M h docket.old → Of C.Source docket.new (Remade T.Scale.unit M h (gathered self.now.settings (range_at (sheet_in self.now))) result) }
+        ensures { Remakes C.Source T.Scale.unit (gathered self.now.settings (range_at (sheet_in self.now))) result docket.old docket.new }
     {
         for v in 0..usize::from(self.settings) {
             self.set_one(docket, v)?;
@@ -83,7 +83,7 @@ impl Framed<'_> {
 
     fn set_one<C: Source, T: Scale>(&self, docket: &mut Docket<C, T>, v: usize) -> Result<(), Fault>
         requires { v < self.now.settings }
-        ensures { (M : Meaning) (h : List Given) → After C.Source T.Scale.unit M h docket.old → Of C.Source docket.new (Remade T.Scale.unit M h (range_at (sheet_in self.now) v) result) }
+        ensures { Remakes C.Source T.Scale.unit (range_at (sheet_in self.now) v) result docket.old docket.new }
     {
         let at = self.layout().ranges() + 2 * v;
         let call = setting(v + 1, self.number(at), self.number(at + 1));
@@ -92,7 +92,7 @@ impl Framed<'_> {
 
     fn propose<C: Source, T: Scale>(&self, docket: &mut Docket<C, T>) -> Result<(), Fault>
         requires { self.now.states ≤ 12 }
-        ensures { (M : Meaning) (h : List Given) → After C.Source T.Scale.unit M h docket.old → Of C.Source docket.new (Remade T.Scale.unit M h (read (4 * at_table self.now.states self.now.settings) (proposal_of (sheet_in self.now)) ∷ []) result) }
+        ensures { Remakes C.Source T.Scale.unit (read (4 * at_table self.now.states self.now.settings) (proposal_of (sheet_in self.now)) ∷ []) result docket.old docket.new }
     {
         let layout = self.layout();
         let n = layout.states;
@@ -107,7 +107,7 @@ impl Framed<'_> {
 
     fn attempt<C: Source, T: Scale>(&self, docket: &mut Docket<C, T>) -> Result<(), Fault>
         requires { self.now.states ≤ 12 }
-        ensures { (M : Meaning) (h : List Given) → After C.Source T.Scale.unit M h docket.old → Of C.Source docket.new (Remade T.Scale.unit M h (read (4 * at_box self.now.states self.now.settings) (trial_of (sheet_in self.now)) ∷ []) result) }
+        ensures { Remakes C.Source T.Scale.unit (read (4 * at_box self.now.states self.now.settings) (trial_of (sheet_in self.now)) ∷ []) result docket.old docket.new }
     {
         let layout = self.layout();
         let n = layout.states;
@@ -132,7 +132,7 @@ impl Framed<'_> {
     }
 
     fn narrow_all<C: Source, T: Scale>(&self, docket: &mut Docket<C, T>) -> Result<(), Fault>
-        ensures { (M : Meaning) (h : List Given) → After C.Source T.Scale.unit M h docket.old → Of C.Source docket.new (Remade T.Scale.unit M h (gathered self.now.narrowings (narrow_at (sheet_in self.now))) result) }
+        ensures { Remakes C.Source T.Scale.unit (gathered self.now.narrowings (narrow_at (sheet_in self.now))) result docket.old docket.new }
     {
         for m in 0..usize::from(self.narrowings) {
             self.narrow_one(docket, m)?;
@@ -145,7 +145,7 @@ impl Framed<'_> {
         docket: &mut Docket<C, T>,
         m: usize,
     ) -> Result<(), Fault>
-        ensures { (M : Meaning) (h : List Given) → After C.Source T.Scale.unit M h docket.old → Of C.Source docket.new (Remade T.Scale.unit M h (narrow_at (sheet_in self.now) m) result) }
+        ensures { Remakes C.Source T.Scale.unit (narrow_at (sheet_in self.now) m) result docket.old docket.new }
     {
         let call = narrowing();
         made(docket.call(call), self.layout().length() - 2)

@@ -16,17 +16,6 @@ impl Rechecked {
         if row >= usize::from(self.states) {
             return Err(Fault::NoRow { row });
         }
-        Ok(at(&self.ranges, row))
-    }
-}
-
-// The span at a place, 0 past the last.
-fn at(rows: &[Span], i: usize) -> Span
-    ensures { ends result ≡ spans rows.now i }
-{
-    if i < rows.len() {
-        rows[i]
-    } else {
-        Span::point(0)
+        Ok(self.ranges[row])
     }
 }
