@@ -3,6 +3,7 @@ use Rattle.std.proofs.Common.{◌≡◌, ℕ, ◌+◌, ◌*◌, ◌/◌, ◌%◌
 use Rattle.std.proofs.lemmas.Nat.{mul-add-lt, div-mul-add, mod-mul-add}
 use Rattle.std.proofs.lemmas.List.{get_or_past}
 use Rattle.std.proofs.lemmas.Bool.{eq-eqb, eqb-true, and_parts}
+use Rattle.span.specs.declared.scale.Scale.{Ghosts}
 use Rattle.span.specs.declared.span.Span.{Span}
 use Rattle.span.specs.Questions.{Question, ask, first_no}
 use Rattle.method.specs.Method as method
@@ -13,7 +14,7 @@ use Rattle.prepare.specs.declared.fault.Fault.{Fault}
 use Rattle.prepare.specs.declared.fault.Fault.TheVariants.{Count}
 use Rattle.prepare.specs.declared.prepared.Prepared.{Prepared}
 use Rattle.prepare.specs.declared.proposal.Proposal.{Proposal}
-use Rattle.prepare.specs.Numbers.{Kept, Together, number_questions, offered}
+use Rattle.prepare.specs.Numbers.{Kept, number_questions, offered}
 use Rattle.prepare.specs.Proposals.{PreparedFor, Tabled, game, offer, table_questions, guess_questions, residual_questions, iteration_questions, propose_questions}
 use Rattle.prepare.specs.Rows.{Limited}
 use Rattle.prepare.proofs.Filling.{limited_narrow}
@@ -37,22 +38,23 @@ module _ (S : ℕ) (s : System) (r g : List ℤ) (es : S ≡ s.units) where
   pub numbers_no : (f : Fault) → first_no (number_questions s r g) ≡ Some f → first_no (propose_questions S s r g) ≡ Some f
   numbers_no f h = split ∙ earlier (number_questions s r g) after_numbers f h
 
-  module _ (p : Proposal) (none : first_no (number_questions s r g) ≡ None) (k : Kept s r g p) where
-    pub together : Together S s p
-    together = record { scale = es; units = k.units; states = k.states }
-
+  module _ {X : Type 0} {T : Ghosts X} (p : Proposal X T) (none : first_no (number_questions s r g) ≡ None) (k : Kept s r g p) where
     same : offered p ≡ offer s.states r g
     same = offered_same s r g p k
 
-    pub residual_no : (f : Fault) → first_no (residual_questions S (game s) (offered p)) ≡ Some f → first_no (propose_questions S s r g) ≡ Some f
+    -- what is known of the proposal and its system, of the numbers and the system given
+    given : (P : System → method.Proposal → Type 0) → P p.system.now (offered p) → P s (offer s.states r g)
+    given P h = subst (λ (t : System). P t (offer s.states r g)) k.system (subst (λ (H : method.Proposal). P p.system.now H) same h)
+
+    pub residual_no : (f : Fault) → first_no (residual_questions S (game p.system.now) (offered p)) ≡ Some f → first_no (propose_questions S s r g) ≡ Some f
     unfolding after_numbers
     residual_no f h =
         split ∙ later (number_questions s r g) after_numbers none
-        ∙ earlier (residual_questions S (game s) (offer s.states r g)) (iteration_questions S (game s) (offer s.states r g)) f (sym (ap (λ H. first_no (residual_questions S (game s) H)) same) ∙ h)
+        ∙ earlier (residual_questions S (game s) (offer s.states r g)) (iteration_questions S (game s) (offer s.states r g)) f (given (λ t H. first_no (residual_questions S (game t) H) ≡ Some f) h)
 
-    module _ (z : List Span) (lz : Limited S 49 s.states (method.residual S (game s) (offered p)) z) where
+    module _ (z : List Span) (lz : Limited S 49 p.system.now.states (method.residual S (game p.system.now) (offered p)) z) where
       residual_given : Limited S 49 s.states (method.residual S (game s) (offer s.states r g)) z
-      residual_given = subst (λ (H : method.Proposal). Limited S 49 s.states (method.residual S (game s) H) z) same lz
+      residual_given = given (λ t H. Limited S 49 t.states (method.residual S (game t) H) z) lz
 
       residual_yes : first_no (propose_questions S s r g) ≡ first_no (iteration_questions S (game s) (offer s.states r g))
       unfolding after_numbers
@@ -60,12 +62,12 @@ module _ (S : ℕ) (s : System) (r g : List ℤ) (es : S ≡ s.units) where
           split ∙ later (number_questions s r g) after_numbers none
           ∙ later (residual_questions S (game s) (offer s.states r g)) (iteration_questions S (game s) (offer s.states r g)) (all_yes s.states _ residual_given.inside)
 
-      pub iteration_no : (f : Fault) → first_no (iteration_questions S (game s) (offered p)) ≡ Some f → first_no (propose_questions S s r g) ≡ Some f
-      iteration_no f h = residual_yes ∙ sym (ap (λ H. first_no (iteration_questions S (game s) H)) same) ∙ h
+      pub iteration_no : (f : Fault) → first_no (iteration_questions S (game p.system.now) (offered p)) ≡ Some f → first_no (propose_questions S s r g) ≡ Some f
+      iteration_no f h = residual_yes ∙ given (λ t H. first_no (iteration_questions S (game t) H) ≡ Some f) h
 
-      module _ (y : List Span) (ly : Limited S 1 (s.states * s.states) (λ t. method.iteration S (game s) (offered p) (t / s.states) (t % s.states)) y) where
+      module _ (y : List Span) (ly : Limited S 1 (p.system.now.states * p.system.now.states) (λ t. method.iteration S (game p.system.now) (offered p) (t / p.system.now.states) (t % p.system.now.states)) y) where
         iteration_given : Limited S 1 (s.states * s.states) (λ t. method.iteration S (game s) (offer s.states r g) (t / s.states) (t % s.states)) y
-        iteration_given = subst (λ (H : method.Proposal). Limited S 1 (s.states * s.states) (λ t. method.iteration S (game s) H (t / s.states) (t % s.states)) y) same ly
+        iteration_given = given (λ u H. Limited S 1 (u.states * u.states) (λ t. method.iteration S (game u) H (t / u.states) (t % u.states)) y) ly
 
         pub all_asked : first_no (propose_questions S s r g) ≡ None
         all_asked = residual_yes ∙ all_yes (s.states * s.states) _ iteration_given.inside
@@ -75,7 +77,7 @@ module _ (S : ℕ) (s : System) (r g : List ℤ) (es : S ≡ s.units) where
 
         cell_is : (i j : ℕ) → i < s.states → j < s.states → spans y (i * s.states + j) ≡ method.iteration S (game s) (offer s.states r g) i j
         cell_is i j h l =
-            iteration_given.filled.before (i * s.states + j) (mul-add-lt i s.states j s.states h l)
+            iteration_given.before (i * s.states + j) (mul-add-lt i s.states j s.states h l)
             ∙ ap (λ a. method.iteration S (game s) (offer s.states r g) a ((i * s.states + j) % s.states)) (div-mul-add i s.states j l)
             ∙ ap (λ b. method.iteration S (game s) (offer s.states r g) i b) (mod-mul-add i s.states j l)
 
@@ -84,11 +86,11 @@ module _ (S : ℕ) (s : System) (r g : List ℤ) (es : S ≡ s.units) where
           units = eu;
           states = en;
           guess = λ i h. ap (λ xs. get_or xs i (pos 0)) eg ∙ k.guesses i;
-          residual_is = λ i h. ap (λ xs. spans xs i) ez ∙ residual_given.filled.before i h;
+          residual_is = λ i h. ap (λ xs. spans xs i) ez ∙ residual_given.before i h;
           iteration_is = λ i j h l. ap (λ xs. spans xs (i * s.states + j)) ey ∙ cell_is i j h l;
           guess_rest = λ i h. ap (λ xs. get_or xs i (pos 0)) eg ∙ k.guesses i ∙ get_or_past g i (pos 0) (omega (arith, guesses_long));
-          residual_rest = λ i h. ap (λ xs. spans xs i) ez ∙ residual_given.filled.after i h;
-          iteration_rest = λ t h. ap (λ xs. spans xs t) ey ∙ iteration_given.filled.after t h;
+          residual_rest = λ i h. ap (λ xs. spans xs i) ez ∙ residual_given.after i h;
+          iteration_rest = λ t h. ap (λ xs. spans xs t) ey ∙ iteration_given.after t h;
         }
 
         table_long : length r ≡ s.states * s.states
@@ -105,8 +107,11 @@ module _ (S : ℕ) (s : System) (r g : List ℤ) (es : S ≡ s.units) where
           pub kept_scale : (2 ≤ u) × (u ≤ 1048576)
           kept_scale = (omega (arith, s.scale.0), omega (arith, s.scale.1))
 
+          same_scale : T.unit ≡ s.units
+          same_scale = p.scaled ∙ ap (λ (t : System). t.units) k.system
+
           pub kept_guesses : Small (100 * u) p.guesses
-          kept_guesses = subst (λ (w : ℕ). Small (100 * w) p.guesses) (k.units ∙ sym e) p.guessed
+          kept_guesses = subst (λ (w : ℕ). Small (100 * w) p.guesses) (same_scale ∙ sym e) p.guessed
 
           pub kept_residual : Narrow (49 * u) z
           kept_residual = subst (λ (w : ℕ). Narrow (49 * w) z) (es ∙ sym e) (limited_narrow S 49 _ _ z lz)

@@ -3,6 +3,8 @@ pub mod Bits
 pub mod Counts
 pub mod Dotting
 pub mod Filling
-pub mod Joining
+pub mod Exact
 pub mod Firsts
+pub mod Joining
 pub mod Known
+pub mod Limits

@@ -5,14 +5,10 @@ use Rattle.span.specs.Intervals.{Interval, point}
 use Rattle.span.specs.Questions.{ends_within}
 use Rattle.system.specs.Figures.{spans}
 
--- the first k spans are those of f, the others those of g
-pub record Filled (k : ℕ) (f g : ℕ → Interval) (xs : List Span) : Type 0 where
-  pub before : (i : ℕ) → i < k → spans xs i ≡ f i
-  pub after : (i : ℕ) → k ≤ i → spans xs i ≡ g i
-
 -- the first k spans are those of f, with both ends within w wholes of S units; the others are 0
 pub record Limited (S w k : ℕ) (f : ℕ → Interval) (xs : List Span) : Type 0 where
-  pub filled : Filled k f (λ i. point (pos 0)) xs
+  pub before : (i : ℕ) → i < k → spans xs i ≡ f i
+  pub after : (i : ℕ) → k ≤ i → spans xs i ≡ point (pos 0)
   pub inside : (i : ℕ) → i < k → ends_within S w (f i) ≡ true
 
 -- the first k numbers are those of xs, each within the limit; the others are 0

@@ -1,5 +1,5 @@
 // What is prepared from a system and a proposal that was accepted.
-ghost use Rattle.std.specs.Prelude.{◌≡◌, ◌*◌, ◌≤◌};
+ghost use Rattle.std.specs.Prelude.{◌≡◌, ◌*◌, ◌≤◌, length};
 ghost use Rattle.system.specs.Figures.{Small, Narrow};
 
 mod making;
@@ -41,27 +41,31 @@ impl Prepared {
 
     // R, by rows of n.
     pub fn table(&self) -> &[i32]
-        ensures { result.now ≡ self.now.table }
+        ensures value { result.now ≡ self.now.table }
+        ensures long { length result.now ≡ 144 }
     {
         &self.table
     }
 
     pub fn guesses(&self) -> &[i32]
-        ensures { result.now ≡ self.now.guesses }
+        ensures value { result.now ≡ self.now.guesses }
+        ensures long { length result.now ≡ 12 }
     {
         &self.guesses
     }
 
     // Z, row by row.
     pub fn residual(&self) -> &[Span]
-        ensures { result.now ≡ self.now.residual }
+        ensures value { result.now ≡ self.now.residual }
+        ensures long { length result.now ≡ 12 }
     {
         &self.residual
     }
 
     // C, by rows of n.
     pub fn iteration(&self) -> &[Span]
-        ensures { result.now ≡ self.now.iteration }
+        ensures value { result.now ≡ self.now.iteration }
+        ensures long { length result.now ≡ 144 }
     {
         &self.iteration
     }

@@ -1,16 +1,23 @@
-// A proposal: an approximate inverse R by rows of n, and n guessed worths, from anywhere.
-ghost use Rattle.std.specs.Prelude.{◌*◌};
+// A proposal for a system: an approximate inverse R by rows of n, and n guessed worths, from
+// anywhere.
+ghost use Rattle.std.specs.Prelude.{◌≡◌, ◌*◌};
 ghost use Rattle.system.specs.Figures.{Small};
 
 mod limits;
+mod reading;
 
-// R within 50 wholes and the guesses within 100; 0 past the numbers given.
-#[derive(Clone, Copy)]
-pub struct Proposal {
-    pub units: u32,
-    pub states: usize,
+use span::Scale;
+use std::marker::PhantomData;
+use system::System;
+
+// R within 50 wholes and the guesses within 100, at the system's scale; 0 past the numbers given.
+#[derive(Drop)]
+pub struct Proposal<'a, T: Scale> {
+    pub system: &'a System,
     pub table: [i32; 144],
     pub guesses: [i32; 12],
-    ghost tabled: { Small (50 * units) table },
-    ghost guessed: { Small (100 * units) guesses },
+    scale: PhantomData<T>,
+    ghost scaled: { T.Scale.unit ≡ system.now.units },
+    ghost tabled: { Small (50 * T.Scale.unit) table },
+    ghost guessed: { Small (100 * T.Scale.unit) guesses },
 }

@@ -4,9 +4,7 @@ ghost use Rattle.prepare.specs.Proposals.{Proposed, Tabled, offer};
 
 use super::Prepared;
 use crate::fault::Fault;
-use crate::iteration::iteration;
 use crate::proposal::Proposal;
-use crate::residual::residual;
 use span::Scale;
 use system::System;
 
@@ -22,9 +20,9 @@ impl Prepared {
                 units: system.units(),
             });
         }
-        let proposal = Proposal::new(system, table, guesses)?;
-        let residual = residual::<T>(system, &proposal)?;
-        let iteration = iteration::<T>(system, &proposal)?;
+        let proposal = Proposal::<T>::new(system, table, guesses)?;
+        let residual = proposal.residual()?;
+        let iteration = proposal.iteration()?;
         Ok(Prepared {
             units: system.units(),
             states: system.states(),

@@ -1,16 +1,18 @@
 // The questions of the numbers alone: how many there are, and how large.
-ghost use Rattle.std.specs.Prelude.{◌≡◌, ◌*◌, ◌/◌, ◌%◌, ◌≤◌, length, replicate, pos, Some, Ok, Err, nat_le, slice_index_or, unsigned_abs};
-ghost use Rattle.span.specs.Questions.{ask, each, first_no};
-ghost use Rattle.prepare.specs.declared.fault.Fault.TheVariants.{GuessTooLarge, TableTooLarge};
+ghost use Rattle.std.specs.Prelude.{◌≡◌, ◌<◌, ◌≤◌, length, MatchResult};
+ghost use Rattle.system.specs.Figures.{FirstBeyond};
 ghost use Rattle.prepare.specs.Numbers.{Taken};
 ghost use Rattle.prepare.specs.Rows.{Copied};
 
 use super::Proposal;
 use crate::fault::Fault;
+use span::Scale;
+use std::marker::PhantomData;
 use system::System;
 
-impl Proposal {
-    pub fn new(system: &System, table: &[i32], guesses: &[i32]) -> Result<Proposal, Fault>
+impl<'a, T: Scale> Proposal<'a, T> {
+    pub fn new(system: &'a System, table: &[i32], guesses: &[i32]) -> Result<Proposal<'a, T>, Fault>
+        requires { T.Scale.unit ≡ system.now.units }
         ensures { Taken system.now table.now guesses.now result }
     {
         let n = system.states();
@@ -21,52 +23,29 @@ impl Proposal {
                 guesses: guesses.len(),
             });
         }
-        let table = limited_table(table, n, 50 * units)?;
-        let guesses = limited_guesses(guesses, 100 * units)?;
+        let table = limited(table, 50 * units).map_err(|t| Fault::TableTooLarge {
+            row: t / n,
+            column: t % n,
+        })?;
+        let guesses = limited(guesses, 100 * units).map_err(|row| Fault::GuessTooLarge { row })?;
         Ok(Proposal {
-            units,
-            states: n,
+            system,
             table,
             guesses,
+            scale: PhantomData,
         })
     }
 }
 
-// R in an array, each number within the limit.
-fn limited_table(table: &[i32], n: usize, limit: u32) -> Result<[i32; 144], Fault>
-    requires { (1 ≤ n) × (n ≤ 12) × (length table.now ≡ n * n) }
-    ensures { elim result [ Ok copied ↦ Copied limit (n * n) table.now copied | Err f ↦ first_no (each (n * n) (λ t. ask (nat_le (unsigned_abs (slice_index_or table.now t (pos 0))) limit) (TableTooLarge (t / n) (t % n)))) ≡ Some f ] }
+// The numbers in an array, each within the limit, or where the first one beyond it stands.
+fn limited<const N: usize>(numbers: &[i32], limit: u32) -> Result<[i32; N], usize>
+    requires { length numbers.now ≤ N }
+    ensures { MatchResult result (λ copied. Copied limit (length numbers.now) numbers.now copied) (λ at. (at < length numbers.now) × FirstBeyond limit numbers.now at) }
 {
-    let mut copied = no_numbers();
-    for (t, x) in table.iter().enumerate() {
-        if x.unsigned_abs() > limit {
-            return Err(Fault::TableTooLarge {
-                row: t / n,
-                column: t % n,
-            });
-        }
-        copied[t] = *x;
+    if let Some(at) = numbers.iter().position(|x| x.unsigned_abs() > limit) {
+        return Err(at);
     }
+    let mut copied = [0; N];
+    copied[..numbers.len()].copy_from_slice(numbers);
     Ok(copied)
-}
-
-// The guesses in an array, each within the limit.
-fn limited_guesses(guesses: &[i32], limit: u32) -> Result<[i32; 12], Fault>
-    requires { length guesses.now ≤ 12 }
-    ensures { elim result [ Ok copied ↦ Copied limit (length guesses.now) guesses.now copied | Err f ↦ first_no (each (length guesses.now) (λ i. ask (nat_le (unsigned_abs (slice_index_or guesses.now i (pos 0))) limit) (GuessTooLarge i))) ≡ Some f ] }
-{
-    let mut copied = [0; 12];
-    for (row, x) in guesses.iter().enumerate() {
-        if x.unsigned_abs() > limit {
-            return Err(Fault::GuessTooLarge { row });
-        }
-        copied[row] = *x;
-    }
-    Ok(copied)
-}
-
-fn no_numbers() -> [i32; 144]
-    ensures { result ≡ replicate 144 (pos 0) }
-{
-    [0; 144]
 }

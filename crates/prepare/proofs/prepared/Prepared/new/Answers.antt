@@ -3,7 +3,7 @@ use Rattle.std.proofs.lemmas.Result.{err_from_is_err_and}
 use Rattle.std.proofs.lemmas.Bool.{eqb-true}
 use Rattle.span.proofs.Verdicts.{no_here}
 use Rattle.prepare.specs.declared.fault.Fault.TheVariants.{OtherScale}
-use Rattle.prepare.proofs.Joining.{numbers_no, together, residual_no, iteration_no, all_asked, prepared, tabled, kept_scale, kept_guesses, kept_residual, kept_iteration}
+use Rattle.prepare.proofs.Joining.{numbers_no, residual_no, iteration_no, all_asked, prepared, tabled, kept_scale, kept_guesses, kept_residual, kept_iteration}
 use Rattle.prepare.proofs.prepared.Prepared.new.Goals as goal
 
 pub returns-then-not-same_scale-clause-proposed : goal.returns-then-not-same_scale-clause-proposed
@@ -15,24 +15,12 @@ returns-in_err-proposal-clause-proposed g c =
     let p = err_from_is_err_and c.from_residual.result c.from_residual.ensures.1 in
     rw (p.1, p.2) (numbers_no g.T.Scale.unit c.args.system.now c.args.table.now c.args.guesses.now e _ c.in_err-proposal.ensures)
 
-pub residual-requires : goal.residual-requires
-residual-requires g c =
-    let e = eqb-true _ _ (sym c.if-not-same_scale.ensures) in
-    let k = c.in_ok-proposal.ensures in
-    together g.T.Scale.unit c.args.system.now c.args.table.now c.args.guesses.now e _ k.0 k.1
-
 pub returns-in_err-residual-clause-proposed : goal.returns-in_err-residual-clause-proposed
 returns-in_err-residual-clause-proposed g c =
     let e = eqb-true _ _ (sym c.if-not-same_scale.ensures) in
     let k = c.in_ok-proposal.ensures in
     let p = err_from_is_err_and c.from_residual-in_err-residual.result c.from_residual-in_err-residual.ensures.1 in
     rw (p.1, p.2) (residual_no g.T.Scale.unit c.args.system.now c.args.table.now c.args.guesses.now e _ k.0 k.1 _ c.in_err-residual.ensures)
-
-pub iteration-requires : goal.iteration-requires
-iteration-requires g c =
-    let e = eqb-true _ _ (sym c.if-not-same_scale.ensures) in
-    let k = c.in_ok-proposal.ensures in
-    together g.T.Scale.unit c.args.system.now c.args.table.now c.args.guesses.now e _ k.0 k.1
 
 pub returns-in_err-iteration-clause-proposed : goal.returns-in_err-iteration-clause-proposed
 returns-in_err-iteration-clause-proposed g c =
