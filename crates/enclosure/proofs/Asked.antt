@@ -5,25 +5,8 @@ use Rattle.span.specs.declared.span.Span.{Span}
 use Rattle.span.specs.Intervals.{Interval}
 use Rattle.enclosure.specs.declared.fault.Fault.{Fault}
 use Rattle.enclosure.specs.Boxed.{BoxedBy}
+use Rattle.prepare.proofs.Firsts.{later, earlier}
 use Rattle.span.proofs.Verdicts.{no_none, no_here, no_after}
-
-pub append_none : {F : Type 0} (a b : List (Question F)) → first_no a ≡ None → first_no (a ++ b) ≡ first_no b
-unfolding first_no
-append_none [] b e = refl
-append_none (q ∷ a) b e = kept q.is_yes q.fault a b (append_none a b) e
-  where
-    kept : {F : Type 0} (y : Bool) (f : F) (a b : List (Question F)) → (first_no a ≡ None → first_no (a ++ b) ≡ first_no b) → cond y (first_no a) (Some f) ≡ None → cond y (first_no (a ++ b)) (Some f) ≡ first_no b
-    kept true f a b h e = h e
-    kept false f a b h e = let z : ◌≡◌ {A = ℕ} 0 1 = cc in absurd (omega arith)
-
-pub append_some : {F : Type 0} (a b : List (Question F)) (f : F) → first_no a ≡ Some f → first_no (a ++ b) ≡ Some f
-unfolding first_no
-append_some [] b f e = let z : ◌≡◌ {A = ℕ} 0 1 = cc in absurd (omega arith)
-append_some (q ∷ a) b f e = kept q.is_yes q.fault a b f (append_some a b f) e
-  where
-    kept : {F : Type 0} (y : Bool) (g : F) (a b : List (Question F)) (f : F) → (first_no a ≡ Some f → first_no (a ++ b) ≡ Some f) → cond y (first_no a) (Some g) ≡ Some f → cond y (first_no (a ++ b)) (Some g) ≡ Some f
-    kept true g a b f h e = h e
-    kept false g a b f h e = e
 
 pub each_none : {F : Type 0} (q : ℕ → Question F) → first_no (each 0 q) ≡ None
 unfolding each
@@ -32,7 +15,7 @@ each_none q = no_none
 -- one question more is answered yes
 pub each_more : {F : Type 0} (i : ℕ) (q : ℕ → Question F) → first_no (each i q) ≡ None → (q i).is_yes ≡ true → first_no (each (i + 1) q) ≡ None
 unfolding each
-each_more i q h y = rw add-one (append_none (each i q) (q i ∷ []) h ∙ no_after (q i).is_yes (q i).fault [] None y no_none)
+each_more i q h y = rw add-one (later (each i q) (q i ∷ []) h ∙ no_after (q i).is_yes (q i).fault [] None y no_none)
 
 -- the first no is at i
 pub each_first : {F : Type 0} (n i : ℕ) (q : ℕ → Question F) → i < n → first_no (each i q) ≡ None → (q i).is_yes ≡ false → first_no (each n q) ≡ Some (q i).fault
@@ -40,7 +23,7 @@ unfolding each
 each_first zero i q l h y = elim l [ ]
 each_first (suc n) i q l h y =
     let m : i ≤ n = omega arith in
-    elim (eq-or-lt_of_le m) [ inl e ↦ rw (← e) (append_none (each i q) (q i ∷ []) h ∙ no_here (q i).is_yes (q i).fault [] y) | inr k ↦ append_some (each n q) (q n ∷ []) (q i).fault (each_first n i q k h y) ]
+    elim (eq-or-lt_of_le m) [ inl e ↦ rw (← e) (later (each i q) (q i ∷ []) h ∙ no_here (q i).is_yes (q i).fault [] y) | inr k ↦ earlier (each n q) (q n ∷ []) (q i).fault (each_first n i q k h y) ]
 
 -- questions that are the same below n
 pub each_same : {F : Type 0} (n : ℕ) (q r : ℕ → Question F) → ((i : ℕ) → i < n → q i ≡ r i) → each n q ≡ each n r
@@ -81,9 +64,3 @@ each_yes (suc n) q h i l =
 pub boxed_after : (q : Question Fault) (qs : List (Question Fault)) (n : ℕ) (Y : ℕ → Interval) (r : Result (List Span) Fault) → q.is_yes ≡ true → BoxedBy qs n Y r → BoxedBy (q ∷ qs) n Y r
 boxed_after q qs n Y (Ok b) e h = (no_after q.is_yes q.fault qs None e h.0, h.1)
 boxed_after q qs n Y (Err f) e h = no_after q.is_yes q.fault qs (Some f) e h
-
--- all are answered yes
-pub every_asked : {F : Type 0} (n : ℕ) (q : ℕ → Question F) → ((i : ℕ) → i < n → (q i).is_yes ≡ true) → first_no (each n q) ≡ None
-unfolding each
-every_asked zero q h = no_none
-every_asked (suc n) q h = append_none (each n q) (q n ∷ []) (every_asked n q (λ i k. h i (omega arith))) ∙ no_after (q n).is_yes (q n).fault [] None (h n (omega arith)) no_none

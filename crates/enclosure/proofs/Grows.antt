@@ -8,6 +8,7 @@ use Rattle.span.proofs.Floors.{floor_ceiling}
 use Rattle.span.proofs.Integers.{lin, scaled}
 use Rattle.method.specs.Method.{size}
 use Rattle.method.specs.Trials.{grown}
+use Rattle.prepare.proofs.Bits.{is_difference}
 use Rattle.method.proofs.Sizes.{unsigned_abs_product, size_brought}
 
 -- up to 11 tenths of what is within 2 ^ 59
@@ -61,3 +62,11 @@ grown_from v a b l h fa fb fl fh ea eb el eh =
 
 pub same_ends : (v : Interval) (l h : ℤ) → l ≡ v.low → h ≡ v.high → ◌≡◌ {A = Interval} (record { low = l; high = h }) v
 same_ends v l h p q = rw (p, q) refl
+
+-- how far one end passes another
+pub overshoot_is : (x y X Y : ℤ) → x ≡ X → y ≡ Y → nat_abs X ≤ 2 ^ 59 → nat_abs Y ≤ 2 ^ 59 → (to_z w64 (of_z w64 x) -ℤ to_z w64 (of_z w64 y) ≡ X -ℤ Y) × SFits w64 (X -ℤ Y)
+overshoot_is x y X Y e f a b =
+    let fx : SFits w64 X = omega (arith, ints) in
+    let fy : SFits w64 Y = omega (arith, ints) in
+    let fits : SFits w64 (X -ℤ Y) = omega (arith, ints, lin) in
+    (is_difference x y X Y e f fx fy, fits)

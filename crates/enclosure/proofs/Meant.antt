@@ -1,19 +1,14 @@
 -- the step from what is prepared is the method's
-use Rattle.std.proofs.Common.{◌≡◌, ℕ, zero, suc, ◌+◌, ◌*◌, ◌<◌, pos, refl, ap, ◌∙◌, arith}
+use Rattle.std.proofs.Common.{◌≡◌, ℕ, ◌+◌, ◌*◌, ◌<◌, pos, ap, ◌∙◌}
 use Rattle.span.specs.Intervals.{Interval, point, ◌+ᵢ◌, ◌*ᵢ◌, brought}
 use Rattle.method.specs.Method.{Game, Proposal, residual, iteration, step}
 use Rattle.method.specs.Sums.{sumᵢ}
 use Rattle.system.specs.Figures.{spans}
+use Rattle.prepare.proofs.Additions.{same_sums}
 use Rattle.prepare.specs.declared.prepared.Prepared.{Prepared}
 use Rattle.prepare.specs.Proposals.{PreparedFor}
 use Rattle.enclosure.specs.Boxed.{next, product_sum}
 use Rattle.enclosure.specs.Stepped.{stepped}
-
--- sums of equal terms are equal
-pub sums_same : (n : ℕ) (f g : ℕ → Interval) → ((j : ℕ) → j < n → f j ≡ g j) → sumᵢ n f ≡ sumᵢ n g
-sums_same zero f g e = refl
-sums_same (suc n) f g e =
-    ap (λ s. s +ᵢ f n) (sums_same n f g (λ j h. e j (omega arith))) ∙ ap (λ s. sumᵢ n g +ᵢ s) (e n (omega arith))
 
 pub next_is : (S : ℕ) (G : Game) (H : Proposal) (p : Prepared) → PreparedFor S G H p → (X Y : ℕ → Interval) → ((i : ℕ) → i < G.states → X i ≡ Y i) → (i : ℕ) → i < G.states → next p X i ≡ step S G H Y i
 unfolding stepped step
@@ -29,4 +24,4 @@ next_is S G H p q X Y same i h =
         ∙ ap (λ x. iteration S G H i j *ᵢ x) (same j k)
 
     sums : product_sum p X i p.states ≡ sumᵢ G.states (λ j. iteration S G H i j *ᵢ Y j)
-    sums = ap (product_sum p X i) q.states ∙ sums_same G.states (λ j. spans p.iteration (i * p.states + j) *ᵢ X j) (λ j. iteration S G H i j *ᵢ Y j) term
+    sums = ap (product_sum p X i) q.states ∙ same_sums G.states (λ j. spans p.iteration (i * p.states + j) *ᵢ X j) (λ j. iteration S G H i j *ᵢ Y j) term

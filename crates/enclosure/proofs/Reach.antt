@@ -64,9 +64,6 @@ pub greatest_within : (p : Prepared) (m : ℕ) → greatest_size p m ≤ 49 * p.
 greatest_within p zero = omega arith
 greatest_within p (suc m) = max-le (greatest_within p m) (p.near m)
 
-pub moved_fits : {s t : Interval} → s ≡ t → Fits t → Fits s
-moved_fits e h = rw e h
-
 -- the scale's units, as the code passes them
 pub scale_read : (x : ℤ) (S u : ℕ) → S ≤ 1048576 → x ≡ pos S → S ≡ u → to_z w64 (of_z w64 x) ≡ pos u
 scale_read x S u h e k = let f : SFits w64 x = omega (arith, ints) in to_z-of_z w64 x f ∙ e ∙ ap pos k

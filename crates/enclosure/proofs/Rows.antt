@@ -1,12 +1,13 @@
 -- a box's rows after one more is set
-use Rattle.std.proofs.Common.{◌≡◌, ℕ, ◌+◌, ◌<◌, ◌≤◌, List, map, length, get_or, set, replicate, pos, ◌∙◌, inl, inr, eq-or-lt_of_le, arith}
-use Rattle.std.proofs.lemmas.List.{get_or_past, get_or-map, get_or-replicate, length-map, length-replicate, length-set}
+use Rattle.std.proofs.Common.{◌≡◌, ℕ, ◌+◌, ◌<◌, ◌≤◌, List, ◌++◌, map, length, drop, get_or, set, replicate, pos, ◌∙◌, inl, inr, eq-or-lt_of_le, arith}
+use Rattle.std.proofs.lemmas.List.{get_or_past, get_or-map, get_or-replicate, length-append, length-drop, length-map, length-replicate, length-set}
 use Rattle.std.proofs.lemmas.Bool.{cases_lt}
 use Rattle.span.specs.declared.span.Span.{Span}
 use Rattle.span.specs.Intervals.{Interval, point}
 use Rattle.span.specs.Spans.{ends}
 use Rattle.system.specs.Figures.{spans}
 use Rattle.system.proofs.Ranges.{spans_set_here, spans_set_elsewhere}
+use Rattle.prepare.proofs.Bits.{spans_before, spans_behind}
 use Rattle.enclosure.specs.Boxed.{Holds}
 
 pub spans_read : (xs : List Span) (i : ℕ) (d : Span) → i < length xs → spans xs i ≡ ends (get_or xs i d)
@@ -27,4 +28,12 @@ holds_more i xs s Y h few e = let l : i < length xs = omega (arith, h.long) in r
   long = length-set xs i s ∙ h.long;
   rows = λ j k. let m : j ≤ i = omega arith in elim (eq-or-lt_of_le m) [ inl q ↦ rw q (spans_set_here xs i s l ∙ e) | inr q ↦ spans_set_elsewhere xs i s j (λ z. omega arith) ∙ h.rows j q ];
   rest = λ j k. spans_set_elsewhere xs i s j (λ z. omega arith) ∙ h.rest j (omega arith);
+}
+
+-- n rows that were written at the front of rows of 0
+pub holds_front : (n : ℕ) (s : Span) (xs : List Span) (Y : ℕ → Interval) → ends s ≡ point (pos 0) → n ≤ 12 → length xs ≡ n → ((i : ℕ) → i < n → spans xs i ≡ Y i) → Holds n (xs ++ drop n (replicate 12 s)) Y
+holds_front n s xs Y e few l h = record {
+  long = length-append xs (drop n (replicate 12 s)) ∙ omega (arith, length-drop n (replicate 12 s), length-replicate 12 s);
+  rows = λ i k. spans_before xs (drop n (replicate 12 s)) i (omega arith) ∙ h i k;
+  rest = λ i k. spans_behind xs (replicate 12 s) n i l k ∙ spans_same 12 s i e;
 }

@@ -19,7 +19,7 @@ use Rattle.enclosure.specs.declared.fault.Fault.TheVariants.{NotAccepted, Trials
 use Rattle.enclosure.specs.Boxed.{Holds, next, about_zero, greatest_size, reach_questions}
 use Rattle.enclosure.specs.Ends.{sided}
 use Rattle.enclosure.specs.Enclosures.{Going, Found, Ran, RunAnswers, RunRefused, AtOnce, decided, trials, refused_at, run_questions, size_questions}
-use Rattle.enclosure.proofs.Asked.{every_asked}
+use Rattle.prepare.proofs.Firsts.{all_yes}
 use Rattle.enclosure.proofs.Meant.{next_is}
 use Rattle.enclosure.proofs.Reach.{greatest_within}
 use Rattle.enclosure.proofs.Tells.{accepts_of, accepts_as, refused_as, sizes_as}
@@ -93,7 +93,7 @@ pub first_near : (S : ℕ) (G : Game) (H : Proposal) (p : Prepared) → Prepared
 unfolding boxes
 first_near S G H p q some =
     let m : residual_size S G H ≤ 49 * S = subst (λ u. residual_size S G H ≤ 49 * u) q.units (subst (λ n. n ≤ 49 * p.units) (start_size S G H p q) (greatest_within p p.states)) in
-    every_asked G.states _ (λ i l. near_enough S (about_zero (residual_size S G H)) (max-le (omega (arith, lin)) (omega (arith, lin))))
+    all_yes G.states _ (λ i l. near_enough S (about_zero (residual_size S G H)) (max-le (omega (arith, lin)) (omega (arith, lin))))
 
 pub ran : (S : ℕ) (G : Game) (H : Proposal) (p : Prepared) (t : ℕ) (r : Result (ℕ × Enclosure) Fault) → PreparedFor S G H p → 1 ≤ t → t ≤ 10 → Found S G H t r → Ran S G H t r
 unfolding boxes

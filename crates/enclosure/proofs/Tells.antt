@@ -1,7 +1,8 @@
 -- what the code found of a box, said of the method's box
-use Rattle.std.proofs.Common.{◌≡◌, ℕ, zero, suc, pred, ◌<◌, ◌≤◌, true, false, ◌&&◌, List, [], ◌∷◌, ◌++◌, ℤ, ◌-ℤ◌, ◌<ℤ◌, Some, None, Option, sym, refl, ap, ◌∙◌, arith}
+use Rattle.std.proofs.Common.{◌≡◌, ℕ, zero, suc, pred, ◌<◌, ◌≤◌, true, false, ◌&&◌, List, [], ◌∷◌, ◌++◌, length, take, ℤ, ◌-ℤ◌, ◌<ℤ◌, Some, None, Option, sym, refl, ap, ◌∙◌, arith}
 use lib.Signed.{lt_z}
 use Rattle.std.proofs.lemmas.Int.{ints}
+use Rattle.std.proofs.lemmas.List.{length-take-le}
 use Rattle.std.proofs.lemmas.Bool.{and_from}
 use Rattle.span.specs.declared.span.Span.{Span}
 use Rattle.span.specs.Intervals.{Interval}
@@ -12,21 +13,29 @@ use Rattle.method.specs.Trials as trials
 use Rattle.method.proofs.Soundness.{soundness}
 use Rattle.system.specs.Figures.{spans}
 use Rattle.span.proofs.Verdicts.{no_none, no_here, no_after}
+use Rattle.prepare.proofs.Bits.{spans_front}
 use Rattle.prepare.specs.declared.prepared.Prepared.{Prepared}
 use Rattle.prepare.specs.Proposals.{PreparedFor}
 use Rattle.enclosure.specs.declared.enclosure.Enclosure.{Enclosure}
 use Rattle.enclosure.specs.declared.fault.Fault.{Fault}
 use Rattle.enclosure.specs.declared.fault.Fault.TheVariants.{BoxTooLarge, NotAccepted}
+use Rattle.enclosure.specs.declared.trial.Trial.{Trial}
 use Rattle.enclosure.specs.Boxed.{Holds, next, box, count_question, order_questions, reach_questions}
 use Rattle.enclosure.specs.Ends.{sided}
 use Rattle.enclosure.specs.Enclosures.{Encloses, refused_at, size_questions, try_questions}
 use Rattle.enclosure.proofs.Accepts.{row_inside}
-use Rattle.enclosure.proofs.Asked.{append_none, append_some, each_same}
+use Rattle.prepare.proofs.Firsts.{later, earlier}
+use Rattle.enclosure.proofs.Asked.{each_same}
 use Rattle.enclosure.proofs.Meant.{next_is}
 use Rattle.enclosure.proofs.Verdict.{every_same, every_true}
 
 tested : (s t u v : Interval) → s ≡ t → u ≡ v → (lt_z s.low u.low && lt_z u.high s.high) ≡ (lt_z t.low v.low && lt_z v.high t.high)
 tested s t u v e f = rw (e, f) refl
+
+-- the questions of a box's rows alone
+pub reach_front : (S n : ℕ) (y : List Span) → n ≤ length y → first_no (reach_questions S (length (take n y)) (spans (take n y))) ≡ first_no (reach_questions S n (spans y))
+reach_front S n y h =
+    ap (λ m. first_no (reach_questions S m (spans (take n y)))) (length-take-le n y h) ∙ ap first_no (each_same n _ _ (λ i l. ap (λ s. ask (ends_within S 100 s) (BoxTooLarge i)) (spans_front y n i l)))
 
 -- the worst end of the same rows
 abbrev low_of : ℕ → Interval → Interval → trials.End
@@ -103,6 +112,11 @@ holds_accepted S G H Y e q hy hv z a = record {
   sound = λ some. soundness S some G H Y (accepted_as S G H Y a);
 }
 
+-- what an accepted trial gives
+pub trial_accepted_as : (S : ℕ) (G : Game) (H : Proposal) (Y : ℕ → Interval) (t : Trial) (e : Enclosure) → e.prepared ≡ t.prepared.now → e.trial ≡ t.y → e.correction ≡ t.v → e.narrowings ≡ 0 → PreparedFor S G H t.prepared.now → Holds t.prepared.now.states t.y Y → is_inside t.prepared.now.states (spans t.y) (spans t.v) ≡ true → Encloses S G H Y 0 e
+trial_accepted_as S G H Y t e ep et ev z q hy a =
+    holds_accepted S G H Y e (rw ep q) (rw (ep, et) hy) (rw (ep, et, ev) t.stepped) z (sym (accepts_as S G H t.prepared.now q Y t.y t.v hy t.stepped) ∙ a)
+
 -- the questions of a try
 module _ (S : ℕ) (G : Game) (H : Proposal) (p : Prepared) (q : PreparedFor S G H p) (ys : List ℤ) where
   opened : {r : Option Fault} → first_no (count_question p.states ys ∷ order_questions p.states ys) ≡ r → first_no (count_question G.states ys ∷ order_questions G.states ys) ≡ r
@@ -112,18 +126,18 @@ module _ (S : ℕ) (G : Game) (H : Proposal) (p : Prepared) (q : PreparedFor S G
   last = ask (accepts S G H (box ys)) (refused_at S G H (box ys)) ∷ []
 
   pub no_box : (f : Fault) → first_no (count_question p.states ys ∷ order_questions p.states ys) ≡ Some f → first_no (try_questions S G H ys) ≡ Some f
-  no_box f h = append_some (count_question G.states ys ∷ order_questions G.states ys) (size_questions S G H (box ys) ++ last) f (opened h)
+  no_box f h = earlier (count_question G.states ys ∷ order_questions G.states ys) (size_questions S G H (box ys) ++ last) f (opened h)
 
   module _ (y v : List Span) (hy : Holds p.states y (box ys)) (h : first_no (count_question p.states ys ∷ order_questions p.states ys) ≡ None) where
     boxed : first_no (try_questions S G H ys) ≡ first_no (size_questions S G H (box ys) ++ last)
-    boxed = append_none (count_question G.states ys ∷ order_questions G.states ys) (size_questions S G H (box ys) ++ last) (opened h)
+    boxed = later (count_question G.states ys ∷ order_questions G.states ys) (size_questions S G H (box ys) ++ last) (opened h)
 
     pub no_size : (f : Fault) → first_no (reach_questions S p.states (spans y)) ≡ Some f → first_no (try_questions S G H ys) ≡ Some f
-    no_size f k = boxed ∙ append_some (size_questions S G H (box ys)) last f (sym (sizes_as S G H p q (box ys) y v hy) ∙ k)
+    no_size f k = boxed ∙ earlier (size_questions S G H (box ys)) last f (sym (sizes_as S G H p q (box ys) y v hy) ∙ k)
 
     module _ (hv : Holds p.states v (next p (spans y))) (k : first_no (reach_questions S p.states (spans y)) ≡ None) where
       sized : first_no (try_questions S G H ys) ≡ first_no last
-      sized = boxed ∙ append_none (size_questions S G H (box ys)) last (sym (sizes_as S G H p q (box ys) y v hy) ∙ k)
+      sized = boxed ∙ later (size_questions S G H (box ys)) last (sym (sizes_as S G H p q (box ys) y v hy) ∙ k)
 
       pub no_acceptance : is_inside p.states (spans y) (spans v) ≡ false → first_no (try_questions S G H ys) ≡ Some (NotAccepted (worst (spans y) (spans v) (pred p.states)).row (sided (worst (spans y) (spans v) (pred p.states)).side))
       no_acceptance a = sized ∙ no_here _ _ _ (sym (accepts_as S G H p q (box ys) y v hy hv) ∙ a) ∙ ap Some (sym (refused_as S G H p q (box ys) y v hy hv))

@@ -10,7 +10,7 @@ use Rattle.span.specs.Questions.{ends_within}
 use Rattle.method.specs.Method.{size}
 use Rattle.method.specs.Trials.{every, worst, worse, low_end, high_end}
 use Rattle.method.specs.Trials as trials
-use Rattle.enclosure.specs.declared.trial.Overshoot.{Overshoot}
+use Rattle.enclosure.specs.declared.trial.judging.Overshoot.{Overshoot}
 use Rattle.enclosure.specs.Ends.{overshot}
 
 pub too_far : (S : ℕ) (s : Interval) → 100 * S < size s → ends_within S 100 s ≡ false

@@ -3,7 +3,7 @@ use Rattle.std.specs.Prelude.{ℕ, zero, suc}
 use Rattle.method.specs.Trials as trials
 use Rattle.enclosure.specs.declared.fault.End.{End}
 use Rattle.enclosure.specs.declared.fault.End.TheVariants.{Low, High}
-use Rattle.enclosure.specs.declared.trial.Overshoot.{Overshoot}
+use Rattle.enclosure.specs.declared.trial.judging.Overshoot.{Overshoot}
 
 -- an end by its side, 0 for low
 abbrev pub sided : ℕ → End

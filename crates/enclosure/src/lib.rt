@@ -6,6 +6,7 @@ mod enclosure;
 mod fault;
 mod sentence;
 mod step;
+mod tenths;
 mod trial;
 
 pub use enclosure::Enclosure;

@@ -1,13 +1,14 @@
 // Narrowing what is held, and telling a row of it.
-ghost use Rattle.std.specs.Prelude.{◌≡◌, ℕ, pos, Err, ◌≢◌, slice_index_or};
+ghost use Rattle.std.specs.Prelude.{◌≡◌, ℕ, length, Err, ◌≢◌};
 ghost use Rattle.method.specs.Method.{Game, Proposal};
 ghost use Rattle.span.specs.Intervals.{Interval};
 ghost use Rattle.enclosure.specs.declared.fault.Fault.TheVariants.{OtherScale};
 ghost use Rattle.enclosure.specs.Enclosures.{Held, NarrowedTo, Told};
 
 use super::Enclosure;
+use super::holding::same_scale;
 use crate::fault::Fault;
-use crate::step::{at, step};
+use crate::step::step;
 use prepare::Prepared;
 use span::{Scale, Span};
 
@@ -18,22 +19,13 @@ impl Enclosure {
         ensures narrowed { (G : Game) (H : Proposal) (Y : ℕ → Interval) (m : ℕ) → Held T.Scale.unit G H Y m self.old → NarrowedTo T.Scale.unit G H Y m self.old self.new result }
         ensures kept { self.new.prepared ≡ self.old.prepared }
     {
-        let held = *self;
-        if T::units() != i64::from(held.prepared.units()) {
-            return Err(Fault::OtherScale {
-                units: held.prepared.units(),
-            });
-        }
-        if held.narrowings >= 16 {
+        let prepared = self.prepared;
+        same_scale::<T>(&prepared)?;
+        if self.narrowings >= 16 {
             return Err(Fault::Narrowed);
         }
-        let correction = step::<T>(&held.prepared, &held.correction);
-        *self = Enclosure {
-            prepared: held.prepared,
-            trial: held.trial,
-            correction,
-            narrowings: held.narrowings + 1,
-        };
+        self.correction = step::<T>(&prepared, &self.correction);
+        self.narrowings += 1;
         Ok(())
     }
 
@@ -44,11 +36,8 @@ impl Enclosure {
         if row >= self.prepared.states() {
             return Err(Fault::NoRow { row });
         }
-        let guess = Span::point(guess_at(self.prepared.guesses(), row));
-        match guess.add(at(&self.correction, row)) {
-            Ok(range) => Ok(range),
-            Err(_) => unreachable(),
-        }
+        let guess = Span::point(i64::from(self.prepared.guesses()[row]));
+        Ok(guess.add(self.correction[row]).unwrap())
     }
 
     // What the box was tried with.
@@ -60,7 +49,8 @@ impl Enclosure {
 
     // The box that was accepted, row by row.
     pub fn trial(&self) -> &[Span]
-        ensures { result.now ≡ self.now.trial }
+        ensures value { result.now ≡ self.now.trial }
+        ensures long { length result.now ≡ 12 }
     {
         &self.trial
     }
@@ -70,16 +60,5 @@ impl Enclosure {
         ensures { result ≡ self.now.narrowings }
     {
         self.narrowings
-    }
-}
-
-// The guess at a place, 0 past the last.
-fn guess_at(guesses: &[i32], row: usize) -> i64
-    ensures { result ≡ slice_index_or guesses.now row (pos 0) }
-{
-    if row < guesses.len() {
-        i64::from(guesses[row])
-    } else {
-        0
     }
 }

@@ -5,10 +5,10 @@ use Rattle.enclosure.proofs.boxes.grown_low.Goals as goal
 
 pub overflow_sub-result : goal.overflow_sub-result
 overflow_sub-result c =
-    let p = lesser c.args.x c.tenths_below.result c.tenths_below-2.result c.min.result c.requires (search rules) (search rules) c.tenths_below.ensures c.tenths_below-2.ensures c.min.ensures.value in
+    let p = lesser c.args.x c.bring_back-nine.result.0 c.bring_back-eleven.result.0 c.min.result c.requires (search rules) (search rules) c.bring_back-nine.ensures.0 c.bring_back-eleven.ensures.0 c.min.ensures.value in
     omega (arith, ints, p.1)
 
 pub returns : goal.returns
 returns c =
-    let p = lesser c.args.x c.tenths_below.result c.tenths_below-2.result c.min.result c.requires (search rules) (search rules) c.tenths_below.ensures c.tenths_below-2.ensures c.min.ensures.value in
+    let p = lesser c.args.x c.bring_back-nine.result.0 c.bring_back-eleven.result.0 c.min.result c.requires (search rules) (search rules) c.bring_back-nine.ensures.0 c.bring_back-eleven.ensures.0 c.min.ensures.value in
     omega (arith, ints, p.0, p.1)
