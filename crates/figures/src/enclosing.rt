@@ -4,7 +4,8 @@ ghost use Rattle.figures.specs.Enclosed.{Enclosed};
 use enclosure::Enclosure;
 use prepare::Prepared;
 use span::{Millionths, Span};
-use system::{Place, System};
+use std::fmt;
+use system::System;
 
 // A game of one state: its figures, a proposal, the trials allowed and the narrowings wanted.
 #[derive(Clone, Copy)]
@@ -17,11 +18,43 @@ pub struct Single {
     pub narrowings: u8,
 }
 
-// What a game was turned down with.
+// What a game was turned down with, by the step that turned it down.
 #[derive(Clone, Copy)]
-pub struct Refusal {
-    pub number: u8,
-    pub place: Place,
+pub enum Refusal {
+    Posting(system::Fault),
+    Preparing(prepare::Fault),
+    Trying(enclosure::Fault),
+}
+
+impl From<system::Fault> for Refusal {
+    fn from(fault: system::Fault) -> Refusal {
+        Refusal::Posting(fault)
+    }
+}
+
+impl From<prepare::Fault> for Refusal {
+    fn from(fault: prepare::Fault) -> Refusal {
+        Refusal::Preparing(fault)
+    }
+}
+
+impl From<enclosure::Fault> for Refusal {
+    fn from(fault: enclosure::Fault) -> Refusal {
+        Refusal::Trying(fault)
+    }
+}
+
+impl fmt::Display for Refusal {
+    fn fmt<W: fmt::Write>(&self, f: &mut fmt::Formatter<W>) -> fmt::Result {
+        let (number, place) = match self {
+            Refusal::Posting(fault) => (fault.number(), fault.place()),
+            Refusal::Preparing(fault) => (fault.number(), fault.place()),
+            Refusal::Trying(fault) => (fault.number(), fault.place()),
+        };
+        let row = place.row;
+        let part = place.part;
+        write!(f, "turned down, {number}, row {row}, part {part}")
+    }
 }
 
 // The range of the one state.
@@ -32,83 +65,24 @@ pub fn run(game: Single) -> Result<Span, Refusal>
     held(&system, game)
 }
 
-fn posted(game: Single) -> Result<System, Refusal> {
-    let settings = if game.swing.is_some() { 1 } else { 0 };
+fn posted(game: Single) -> Result<System, system::Fault> {
+    let settings = usize::from(game.swing.is_some());
     let (coefficient, payout) = game.fixed;
-    let mut system = opened(settings)?;
-    post(&mut system, 0, coefficient)?;
-    pay(&mut system, payout)?;
+    let mut system = System::new::<Millionths>(1, settings)?;
+    system.post_matrix(0, 0, 0, coefficient)?;
+    system.post_payout(0, 0, payout)?;
     if let Some((coefficient, low, high)) = game.swing {
-        post(&mut system, 1, coefficient)?;
-        set(&mut system, low, high)?;
+        system.post_matrix(1, 0, 0, coefficient)?;
+        system.set_range(1, low, high)?;
     }
     Ok(system)
 }
 
-fn opened(settings: usize) -> Result<System, Refusal> {
-    match System::new::<Millionths>(1, settings) {
-        Ok(system) => Ok(system),
-        Err(fault) => Err(Refusal {
-            number: fault.number(),
-            place: fault.place(),
-        }),
-    }
-}
-
-fn post(system: &mut System, part: usize, amount: i32) -> Result<(), Refusal> {
-    match system.post_matrix(part, 0, 0, amount) {
-        Ok(()) => Ok(()),
-        Err(fault) => Err(Refusal {
-            number: fault.number(),
-            place: fault.place(),
-        }),
-    }
-}
-
-fn pay(system: &mut System, amount: i32) -> Result<(), Refusal> {
-    match system.post_payout(0, 0, amount) {
-        Ok(()) => Ok(()),
-        Err(fault) => Err(Refusal {
-            number: fault.number(),
-            place: fault.place(),
-        }),
-    }
-}
-
-fn set(system: &mut System, low: i32, high: i32) -> Result<(), Refusal> {
-    match system.set_range(1, low, high) {
-        Ok(()) => Ok(()),
-        Err(fault) => Err(Refusal {
-            number: fault.number(),
-            place: fault.place(),
-        }),
-    }
-}
-
 fn held(system: &System, game: Single) -> Result<Span, Refusal> {
-    match Prepared::new::<Millionths>(system, &[game.table], &[game.guess]) {
-        Ok(prepared) => found(&prepared, game.trials, game.narrowings),
-        Err(fault) => Err(Refusal {
-            number: fault.number(),
-            place: fault.place(),
-        }),
-    }
-}
-
-fn found(prepared: &Prepared, trials: u8, narrowings: u8) -> Result<Span, Refusal> {
-    match narrowed(prepared, trials, narrowings) {
-        Ok(range) => Ok(range),
-        Err(fault) => Err(Refusal {
-            number: fault.number(),
-            place: fault.place(),
-        }),
-    }
-}
-
-fn narrowed(prepared: &Prepared, trials: u8, narrowings: u8) -> Result<Span, enclosure::Fault> {
-    let (_, mut enclosure) = Enclosure::run::<Millionths>(prepared, trials)?;
-    for _ in 0..narrowings {
+    let prepared = Prepared::new::<Millionths>(system, &[game.table], &[game.guess])?;
+    let (_, mut enclosure) = Enclosure::run::<Millionths>(&prepared, game.trials)?;
+    for _ in 0..game.narrowings {
         enclosure.narrow::<Millionths>()?;
     }
-    enclosure.row(0)
+    Ok(enclosure.row(0)?)
 }

@@ -101,12 +101,7 @@ fn refusals(rt: &HostRuntime) -> io::Result<()> {
 fn game(rt: &HostRuntime, what: &str, single: Single) -> io::Result<()> {
     match enclosing::run(single) {
         Ok(range) => told(rt, what, range),
-        Err(refusal) => {
-            let number = refusal.number;
-            let part = refusal.place.part;
-            let row = refusal.place.row;
-            println!(rt; "{what}: turned down, {number}, row {row}, part {part}")
-        }
+        Err(refusal) => println!(rt; "{what}: {refusal}"),
     }
 }
 
