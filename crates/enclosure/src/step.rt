@@ -33,7 +33,7 @@ fn step_row<T: Scale>(prepared: &Prepared, y: &[Span; 12], row: usize) -> Span
     whole.bring_back::<T>()
 }
 
-// Σj Cij × Yj.
+// Σj Cij × Yj, each Cij by its index, as C stands by rows of n.
 fn products(prepared: &Prepared, y: &[Span; 12], row: usize) -> Span
     requires near { Reaches prepared.now.states (100 * prepared.now.units) y.now }
     requires below { row < prepared.now.states }

@@ -19,6 +19,7 @@ impl Enclosure {
         ensures narrowed { (G : Game) (H : Proposal) (Y : ℕ → Interval) (m : ℕ) → Held T.Scale.unit G H Y m self.old → NarrowedTo T.Scale.unit G H Y m self.old self.new result }
         ensures kept { self.new.prepared ≡ self.old.prepared }
     {
+        // a copy: while a part of self is lent, no proof tells that a refusal leaves self as it was
         let prepared = self.prepared;
         same_scale::<T>(&prepared)?;
         if self.narrowings >= 16 {

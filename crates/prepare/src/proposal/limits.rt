@@ -11,7 +11,11 @@ use std::marker::PhantomData;
 use system::System;
 
 impl<'a, T: Scale> Proposal<'a, T> {
-    pub fn new(system: &'a System, table: &[i32], guesses: &[i32]) -> Result<Proposal<'a, T>, Fault>
+    pub(crate) fn new(
+        system: &'a System,
+        table: &[i32],
+        guesses: &[i32],
+    ) -> Result<Proposal<'a, T>, Fault>
         requires { T.Scale.unit ≡ system.now.units }
         ensures { Taken system.now table.now guesses.now result }
     {
