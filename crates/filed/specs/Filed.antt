@@ -1,6 +1,6 @@
 -- the worked figures of posts and sheets, in millionths
 use Rattle.std.specs.Prelude.{List, Option, option_map, ◌≡◌, ℕ, [], ◌∷◌, replicate, pos, Some, Ok, Err}
-use Rattle.system.specs.Faults.{at}
+use Rattle.span.specs.Faults.{at}
 use Rattle.span.specs.Questions.{first_no}
 use Rattle.system.specs.declared.fault.Fault.TheVariants.{SumTooLarge}
 use Rattle.source.specs.declared.place.Place.TheVariants.{Matrix}

@@ -45,7 +45,7 @@ returns-then-t-guesses g c M h b q s =
     let w = sections_of _ h b _ s t c.args.layout.states c.args.layout.settings (c.requires.layout.0 ∙ q.states_is) (c.requires.layout.1 ∙ q.settings_is) in
     to_z-of_z w32 c.figure_at.result f
     ∙ c.figure_at.ensures
-    ∙ ap (λ xs. get_or xs (t - c.table-then-t-guesses-2.result) (pos 0)) (c.table-then-t-guesses.ensures ∙ ap (λ p. p.table) c.prepared.ensures)
+    ∙ ap (λ xs. get_or xs (t - c.table-then-t-guesses-2.result) (pos 0)) (c.table-then-t-guesses.ensures.value ∙ ap (λ p. p.table) c.prepared.ensures)
     ∙ ap (λ r. get_or e.prepared.table (t - r) (pos 0)) c.table-then-t-guesses-2.ensures.is
     ∙ w.table (omega (arith, c.table.ensures.is, c.if-t-table.false)) (omega (arith, c.guesses.ensures.is, c.if-t-guesses.true))
 
@@ -57,7 +57,7 @@ returns-then-t-trial g c M h b q s =
     let w = sections_of _ h b _ s t c.args.layout.states c.args.layout.settings (c.requires.layout.0 ∙ q.states_is) (c.requires.layout.1 ∙ q.settings_is) in
     to_z-of_z w32 c.figure_at-then-t-trial.result f
     ∙ c.figure_at-then-t-trial.ensures
-    ∙ ap (λ xs. get_or xs (t - c.guesses-then-t-trial-2.result) (pos 0)) (c.guesses-then-t-trial.ensures ∙ ap (λ p. p.guesses) c.prepared-then-t-trial.ensures)
+    ∙ ap (λ xs. get_or xs (t - c.guesses-then-t-trial-2.result) (pos 0)) (c.guesses-then-t-trial.ensures.value ∙ ap (λ p. p.guesses) c.prepared-then-t-trial.ensures)
     ∙ ap (λ r. get_or e.prepared.guesses (t - r) (pos 0)) c.guesses-then-t-trial-2.ensures.is
     ∙ w.guesses (omega (arith, c.guesses.ensures.is, c.if-t-guesses.false)) (omega (arith, c.trial.ensures.is, c.if-t-trial.true))
 
@@ -71,7 +71,7 @@ returns-then-t-claims g c M h b q s =
     let w = sections_of _ h b _ s t c.args.layout.states c.args.layout.settings (c.requires.layout.0 ∙ q.states_is) (c.requires.layout.1 ∙ q.settings_is) in
     let from : at_box c.args.layout.states c.args.layout.settings ≤ t = omega (arith, c.trial.ensures.is, c.if-t-trial.false) in
     let to : t < at_claims c.args.layout.states c.args.layout.settings = omega (arith, c.claims.ensures.is, c.if-t-claims.true) in
-    let is : ends c.range_at.result ≡ spans e.trial (u / 2) = c.range_at.ensures ∙ ap (λ xs. spans xs (u / 2)) c.trial-then-t-claims-2.ensures in
+    let is : ends c.range_at.result ≡ spans e.trial (u / 2) = c.range_at.ensures ∙ ap (λ xs. spans xs (u / 2)) c.trial-then-t-claims-2.ensures.value in
     let near : size (spans e.trial (u / 2)) ≤ 100 * g.T.Scale.unit = subst (λ r. size (spans e.trial ((t - r) / 2)) ≤ 100 * g.T.Scale.unit) (sym at) (w.trial_size from to) in
     let small : size (ends c.range_at.result) < 2 ^ 31 = subst (λ r. size r < 2 ^ 31) (sym is) (omega (arith, g.met.T.Scale.most)) in
     to_z-of_z w32 c.end_of-then-t-claims.result f
