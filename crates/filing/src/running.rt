@@ -80,13 +80,11 @@ fn rechecked<C: Source, T: Scale, G: Scale>(
 ) -> Result<Rechecked, sheet::Fault>
     ensures { (M : Meaning) (h : List Given) → After C.Source T.Scale.unit M h docket.old → Of C.Source docket.new (Turned T.Scale.unit M h (checked G.Scale.unit bytes.now result)) }
 {
-    match Framed::new::<G>(bytes) {
-        Ok(framed) => framed.recheck(docket),
-        Err(fault) => Err(fault),
-    }
+    Framed::new::<G>(bytes)?.recheck(docket)
 }
 
-// The sheet in a buffer of that size.
+// The sheet in a buffer of that size. Its refusal is an outcome like any other, and stands within;
+// running out of memory is none.
 fn wrote<C: Source, T: Scale>(
     heap: Global,
     docket: &Docket<C, T>,

@@ -122,10 +122,8 @@ pub(crate) fn first_line(heap: Global, line: &[u8]) -> Result<Choices, Misuse> {
     let Some(bytes) = line.strip_prefix(b"#!") else {
         return Ok(Choices::none());
     };
-    match from_utf8(bytes) {
-        Ok(words) => file_choices(heap, words),
-        Err(_) => Err(Misuse::NotText),
-    }
+    let words = from_utf8(bytes).map_err(|_| Misuse::NotText)?;
+    file_choices(heap, words)
 }
 
 fn file_choices(heap: Global, words: &str) -> Result<Choices, Misuse> {

@@ -67,10 +67,8 @@ pub(crate) fn first_line(heap: Global, line: &[u8]) -> Result<Option<Measure>, M
     let Some(bytes) = line.strip_prefix(b"#!") else {
         return Ok(None);
     };
-    match from_utf8(bytes) {
-        Ok(words) => file_scale(heap, words),
-        Err(_) => Err(Misuse::NotText),
-    }
+    let words = from_utf8(bytes).map_err(|_| Misuse::NotText)?;
+    file_scale(heap, words)
 }
 
 fn file_scale(heap: Global, words: &str) -> Result<Option<Measure>, Misuse> {

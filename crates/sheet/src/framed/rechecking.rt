@@ -84,16 +84,14 @@ fn is_claimed(told: Result<Span, law::Fault>, end: usize, number: i32) -> bool
     }
 }
 
-// The held ranges, row by row.
+// The held ranges, row by row; 0..0 past the last.
 fn kept<C: Source, T: Scale>(docket: &Docket<C, T>, states: u8) -> Rechecked
     requires { states ≤ 12 }
     ensures { (M : Meaning) (h : List Given) → After C.Source T.Scale.unit M h docket.now → Keeps T.Scale.unit h states result }
 {
-    let mut ranges = [Span::point(0); 12];
-    for row in 0..usize::from(states) {
-        if let Ok(range) = docket.row(row) {
-            ranges[row] = range;
-        }
+    let mut ranges = [Span::default(); 12];
+    for (row, range) in ranges.iter_mut().enumerate() {
+        *range = docket.row(row).unwrap_or_default();
     }
     Rechecked { states, ranges }
 }

@@ -125,8 +125,8 @@ impl Framed<'_> {
         ensures each { (t : ℕ) → t < 144 → slice_index_or result t (pos 0) ≡ (sheet_in self.now).number (from + t) }
     {
         let mut numbers = [0; 144];
-        for t in 0..144 {
-            numbers[t] = self.number(from + t);
+        for (t, number) in numbers.iter_mut().enumerate() {
+            *number = self.number(from + t);
         }
         numbers
     }
@@ -156,10 +156,9 @@ impl Framed<'_> {
 fn made(answer: Result<Answer, law::Fault>, byte: usize) -> Result<(), Fault>
     ensures { result ≡ as_made answer byte }
 {
-    match answer {
-        Ok(_) => Ok(()),
-        Err(fault) => Err(Fault::Docket { fault, byte }),
-    }
+    answer
+        .map(|_| ())
+        .map_err(|fault| Fault::Docket { fault, byte })
 }
 
 fn posting<'c>(place: Place, amount: i32) -> Call<'c>

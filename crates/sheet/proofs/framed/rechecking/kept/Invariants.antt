@@ -10,6 +10,6 @@ use Rattle.sheet.proofs.framed.rechecking.kept.Given as goal
 
 abbrev pub invariant-loop-row : goal.invariant-loop-row
 invariant-loop-row g l =
-    (length l.ranges ≡ 12)
+    (length l.range-items ≡ 12)
     × ((M : Meaning) (h : List Given) → Reflects g.T.Scale.unit M h (g.C.Source.meaning l.docket.source) (g.C.Source.sound l.docket.source) l.docket.desk →
-    (i : ℕ) (s : Interval) → i < l.row → row_decided g.T.Scale.unit h (holds g.T.Scale.unit h) i ≡ Ok s → spans l.ranges i ≡ s)
+    (i : ℕ) (s : Interval) → i < l.row → row_decided g.T.Scale.unit h (holds g.T.Scale.unit h) i ≡ Ok s → spans l.range-items i ≡ s)
