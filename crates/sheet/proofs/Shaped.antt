@@ -21,6 +21,12 @@ pub record Shaped (T : ℕ) (bs : List ℕ) : Type 0 where
   pub whole : length bs ≡ sheet_length (n_at T bs) (k_at T bs)
   pub distances : (s : ℕ) → s < 5 → unsigned_at bs (length bs - 28 + 4 * s) ≡ distance (n_at T bs) (k_at T bs) s
 
+-- n and k where the head's questions get a yes
+pub head_sized : (T : ℕ) (bs : List ℕ) → first_no (head_questions T bs) ≡ None → (1 ≤ n_at T bs) × (n_at T bs ≤ 12) × (k_at T bs ≤ 8)
+head_sized T bs head =
+    let n = and_parts (leb 1 (n_at T bs)) (leb (n_at T bs) 12) (first_yes _ _ _ head) in
+    (leb-true 1 (n_at T bs) n.0, leb-true (n_at T bs) 12 n.1, leb-true (k_at T bs) 8 (first_yes _ _ _ (none_after _ _ head)))
+
 pub shaped : (T : ℕ) (bs : List ℕ) → first_no (framing_questions T bs) ≡ None → Shaped T bs
 shaped T bs e =
     let a = none_after _ _ e in
@@ -29,13 +35,13 @@ shaped T bs e =
     let head = none_before (head_questions T bs) (length_asked bs (n_at T bs) (k_at T bs) ∷ distance_questions T bs) c in
     let second = none_after _ _ head in
     let third = none_after _ _ second in
-    let n = and_parts (leb 1 (n_at T bs)) (leb (n_at T bs) 12) (first_yes _ _ _ head) in
+    let size = head_sized T bs head in
     record {
       long = leb-true 28 (length bs) (first_yes _ _ _ e);
       scale = eqb-true _ T (first_yes _ _ _ a);
-      some = leb-true 1 (n_at T bs) n.0;
-      states = leb-true (n_at T bs) 12 n.1;
-      settings = leb-true (k_at T bs) 8 (first_yes _ _ _ second);
+      some = size.0;
+      states = size.1;
+      settings = size.2;
       narrowings = leb-true (m_at T bs) 16 (first_yes _ _ _ third);
       zero = eqb-true _ 0 (first_yes _ _ _ (none_after _ _ third));
       whole = eqb-true (length bs) _ (first_yes _ _ _ rest);

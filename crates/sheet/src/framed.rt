@@ -1,4 +1,5 @@
 // A framed sheet: bytes that have the shape of one, whose figures nobody has rechecked yet.
+ghost use Rattle.std.specs.Prelude.{◌≤◌};
 
 mod framing;
 mod rechecking;
@@ -13,4 +14,5 @@ pub struct Framed<'b> {
     states: u8,
     settings: u8,
     narrowings: u8,
+    ghost size: { (1 ≤ states) × (states ≤ 12) × (settings ≤ 8) },
 }

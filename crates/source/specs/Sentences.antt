@@ -1,5 +1,5 @@
 -- why a call was turned down, in one sentence
-use Rattle.std.specs.Prelude.{ℕ, List, ◌++◌, codes, decimal}
+use Rattle.std.specs.Prelude.{ℕ, List, ◌++◌, codes}
 use Rattle.span.specs.Names.{spot_name}
 use Rattle.source.specs.Faults.{spot_of}
 use Rattle.source.specs.declared.fault.Fault.{Fault}

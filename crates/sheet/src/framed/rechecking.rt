@@ -42,7 +42,6 @@ impl Framed<'_> {
 
     // On the docket as it was opened.
     fn proven<C: Source, T: Scale>(&self, docket: &mut Docket<C, T>) -> Result<Rechecked, Fault>
-        requires { self.now.states ≤ 12 }
         ensures { (M : Meaning) (h : List Given) → After C.Source T.Scale.unit M h docket.old → Of C.Source docket.new (AfterOpening T.Scale.unit M h (sheet_in self.now) result) }
     {
         if i64::from(self.units) != T::units() {

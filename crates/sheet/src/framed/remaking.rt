@@ -35,7 +35,6 @@ impl Framed<'_> {
 
     // The calls after the opening, until one is turned down.
     pub(crate) fn remake<C: Source, T: Scale>(&self, docket: &mut Docket<C, T>) -> Result<(), Fault>
-        requires { self.now.states ≤ 12 }
         ensures { Remakes C.Source T.Scale.unit (calls_of (sheet_in self.now)) result docket.old docket.new }
     {
         self.post_all(docket)?;
@@ -60,7 +59,7 @@ impl Framed<'_> {
         docket: &mut Docket<C, T>,
         t: usize,
     ) -> Result<(), Fault>
-        requires { (0 < self.now.states) × (t ≤ 16778490) }
+        requires { t ≤ 16778490 }
         ensures { Remakes C.Source T.Scale.unit (post_of (sheet_in self.now) t) result docket.old docket.new }
     {
         let amount = self.number(t);
@@ -91,7 +90,6 @@ impl Framed<'_> {
     }
 
     fn propose<C: Source, T: Scale>(&self, docket: &mut Docket<C, T>) -> Result<(), Fault>
-        requires { self.now.states ≤ 12 }
         ensures { Remakes C.Source T.Scale.unit (read (4 * at_table self.now.states self.now.settings) (proposal_of (sheet_in self.now)) ∷ []) result docket.old docket.new }
     {
         let layout = self.layout();
@@ -106,7 +104,6 @@ impl Framed<'_> {
     }
 
     fn attempt<C: Source, T: Scale>(&self, docket: &mut Docket<C, T>) -> Result<(), Fault>
-        requires { self.now.states ≤ 12 }
         ensures { Remakes C.Source T.Scale.unit (read (4 * at_box self.now.states self.now.settings) (trial_of (sheet_in self.now)) ∷ []) result docket.old docket.new }
     {
         let layout = self.layout();

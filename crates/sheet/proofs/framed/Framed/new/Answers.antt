@@ -1,8 +1,9 @@
-use Rattle.std.proofs.Common.{◌≡◌, ◌∷◌, sym, refl, ap, ◌∙◌}
+use Rattle.std.proofs.Common.{◌≡◌, ◌∷◌, sym, refl, ap, ◌∙◌, arith}
 use Rattle.std.proofs.lemmas.Result.{err_from_is_err_and}
 use Rattle.span.specs.Questions.{first_no}
 use Rattle.enclosure.proofs.Scales as scales
 use Rattle.sheet.specs.Framing.{distances_asked, length_asked, n_at}
+use Rattle.sheet.proofs.Shaped.{head_sized}
 use Rattle.sheet.proofs.Asking.{head_no, other_scale, rest_decides, too_short}
 use Rattle.sheet.proofs.framed.Framed.new.Goals as goal
 
@@ -30,6 +31,12 @@ returns-in_err-measured g c =
     let k = c.new.ensures.1 ∙ y.2 in
     let x = ap (λ z. first_no (length_asked bs z c.new.result.settings ∷ distances_asked bs z c.new.result.settings)) (sym n) in
     rw (p.1, p.2) (rest_decides _ _ c.if-length-lt28.false (sym (u ∙ c.unsigned_at-units.ensures)) y.0 ∙ ap (λ z. first_no (length_asked bs (n_at 0 bs) z ∷ distances_asked bs (n_at 0 bs) z)) (sym k) ∙ x ∙ c.in_err-measured.ensures)
+
+pub invariant_of-result : goal.invariant_of-result
+invariant_of-result g c =
+    let y = c.in_ok-states.ensures in
+    let size = head_sized 0 c.args.bytes.now y.0 in
+    record { size = (omega (arith, size.0, y.1), omega (arith, size.1, y.1), omega (arith, size.2, y.2)) }
 
 pub returns : goal.returns
 returns g c =

@@ -11,7 +11,7 @@ use Rattle.sheet.proofs.framed.Framed.propose.Goals as goal
 pub slice_bounds-call-end : goal.slice_bounds-call-end
 slice_bounds-call-end g c =
     let n : ℕ = c.layout-layout.result.states in
-    let few : n ≤ 12 = omega (arith, c.layout-layout.ensures.0, c.requires) in
+    let few : n ≤ 12 = omega (arith, c.layout-layout.ensures.0, c.args.self.now.size) in
     let square : n * n ≤ 144 = mul-le-mul few few in
     search rules
 
@@ -20,7 +20,7 @@ returns g c M h q =
     let w = sheet_in c.args.self.now in
     let n : ℕ = c.layout-layout.result.states in
     let l = c.layout-layout.ensures in
-    let few : w.states ≤ 12 = c.requires in
+    let few : w.states ≤ 12 = omega (arith, c.args.self.now.size) in
     let square : w.states * w.states ≤ 144 = mul-le-mul few few in
     let at : c.table.result ≡ at_table w.states w.settings = c.table.ensures.is ∙ ap (λ z. at_table z c.layout-layout.result.settings) l.0 ∙ ap (at_table w.states) l.1 in
     let at2 : c.table-2.result ≡ at_table w.states w.settings = c.table-2.ensures.is ∙ ap (λ z. at_table z c.layout-layout.result.settings) l.0 ∙ ap (at_table w.states) l.1 in
