@@ -45,7 +45,8 @@ fn number_at<C: Source>(figures: &System, source: &C, place: Place) -> i32
     }
 }
 
-// The place whose number stands at an index of the matrix.
+// The place whose number stands at an index of the matrix. A system turns the same index into a spot;
+// it stands beside sources and knows no places.
 fn matrix_place(at: usize) -> Place
     ensures { result ≡ place_at matrix at }
 {

@@ -1,4 +1,5 @@
-// The step of a box: V = Z + C Y, brought back.
+// The step of a box: V = Z + C Y, brought back. A trial steps from its box and a narrowing from what
+// is held, so no one type has the premises, and each function here asks for them.
 ghost use Rattle.std.specs.Prelude.{◌≡◌, ◌*◌, ◌<◌};
 ghost use Rattle.span.specs.Spans.{ends};
 ghost use Rattle.system.specs.Figures.{spans};

@@ -6,7 +6,7 @@ use sheet::Rechecked;
 pub enum Step<'c> {
     // a call, or a row's range
     Asking(Ask<'c>),
-    // frames the bytes for the docket's own scale or for the other one, and rechecks the sheet
+    // frames the bytes for the docket's own scale, or else for the other one, and rechecks the sheet
     Check { bytes: &'c [u8], own: bool },
     // writes the sheet into a buffer of so many bytes, each 170 before
     Write { room: usize },

@@ -143,6 +143,7 @@ fn file_choices(heap: Global, program: Program, words: &str) -> Result<Choices, 
     Ok(choices)
 }
 
+// What is wrong with a value is told with its text, which takes memory: so no `map_err` here.
 fn scale(heap: Global, word: &str) -> Result<Measure, Misuse> {
     match word.parse() {
         Ok(measure) => Ok(measure),

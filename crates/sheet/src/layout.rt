@@ -1,4 +1,5 @@
-// Where the sections of a sheet begin.
+// Where the sections of a sheet begin. A section goes by its number, since the end of a sheet tells
+// the distances of all five in that order.
 ghost use Rattle.std.specs.Prelude.{◌≡◌, ◌<◌, ◌≤◌};
 ghost use Rattle.sheet.specs.Layout.{at_box, at_claims, at_guesses, at_ranges, at_table, at_trailer, distance, place_of, section, sheet_length};
 

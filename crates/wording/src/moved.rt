@@ -1,4 +1,5 @@
-// Which ends of a row had moved inward.
+// Which ends of a row had moved inward. It has two wordings, a bare word and one for people, so
+// neither is its Display.
 ghost use Rattle.std.specs.Prelude.{◌≡◌};
 ghost use Rattle.wording.specs.Moves.{moved, word_of, told_of};
 

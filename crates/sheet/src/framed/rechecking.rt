@@ -25,6 +25,7 @@ impl Framed<'_> {
     {
         let n = usize::from(self.states);
         let k = usize::from(self.settings);
+        // matched, and not passed on: after a `?` the proof does not find again how the opening went
         match docket.open(n, k) {
             Ok(_) => match self.proven(docket) {
                 Ok(rechecked) => Ok(rechecked),
