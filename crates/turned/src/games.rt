@@ -108,10 +108,7 @@ fn asked(heap: Global, line: &str) -> Result<Asked, Fail> {
     let mut words = line.split_whitespace();
     let name = words.next().ok_or("an empty line")?;
     let numbers: Vec<&str> = words.collect(heap)?;
-    match read(heap, name, numbers.as_slice()) {
-        Ok(asked) => Ok(asked),
-        Err(_) => Err(Fail::new("a bad line")),
-    }
+    read(heap, name, numbers.as_slice()).map_err(|_| Fail::new("a bad line"))
 }
 
 fn wrong<'a>(heap: Global, name: &'a str, words: &[&'a str]) -> Result<String, Fail> {
