@@ -1,5 +1,5 @@
 // The page that the programs print: the calls of each input, answered. A page is printed by this one
-// function, of which no contract could say what reaches the paper; what stands on it is worked out by
+// function, of which no contract could say what is seen of it; what stands on it is worked out by
 // functions with contracts.
 #![tactic(auto)]
 
