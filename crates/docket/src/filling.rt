@@ -7,7 +7,8 @@ ghost use Rattle.docket.specs.Filling.{FilledFrom, Reads, read_at};
 use source::{Place, Source};
 use system::System;
 
-// The figures with the source's coefficients at the places of the game, and 0 elsewhere.
+// The figures with the source's coefficients at the places of the game, and 0 elsewhere. The arrays
+// are of the largest game's size, as a docket uses no heap.
 pub(crate) fn filled<C: Source>(figures: &System, source: &C) -> Result<System, system::Fault>
     ensures { FilledFrom figures.now (C.Source.meaning source.now) result }
 {

@@ -9,7 +9,8 @@ mod narrowing;
 use prepare::Prepared;
 use span::Span;
 
-// The box Y that was accepted, and V: its step, narrowed so many times.
+// The box Y that was accepted, and V: its step, narrowed so many times. Both have the rows of the
+// largest game, as an enclosure uses no heap.
 #[derive(Clone, Copy)]
 pub struct Enclosure {
     prepared: Prepared,

@@ -12,7 +12,8 @@ use crate::step::step;
 use prepare::Prepared;
 use span::{Scale, Span};
 
-// The box Y, its ends all within 100 wholes, and its step V; 0 past the last row.
+// The box Y, its ends all within 100 wholes, and its step V; 0 past the last row, in arrays of the
+// largest game's size, since a trial uses no heap.
 #[derive(Drop)]
 pub(crate) struct Trial<'a> {
     pub(crate) prepared: &'a Prepared,

@@ -7,7 +7,7 @@ mod making;
 use span::Span;
 
 // R by rows of n, the guesses, the residual Z (ends within 49 wholes) and the iteration matrix C (within one),
-// C by rows of n.
+// C by rows of n. The arrays are of the largest game's size: what is prepared uses no heap.
 #[derive(Clone, Copy)]
 pub struct Prepared {
     // S, the units in one whole

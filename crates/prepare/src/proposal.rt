@@ -10,7 +10,8 @@ use span::Scale;
 use std::marker::PhantomData;
 use system::System;
 
-// R within 50 wholes and the guesses within 100, at the system's scale; 0 past the numbers given.
+// R within 50 wholes and the guesses within 100, at the system's scale; 0 past the numbers given, in
+// arrays of the largest game's size, since a proposal uses no heap.
 #[derive(Drop)]
 pub struct Proposal<'a, T: Scale> {
     pub system: &'a System,

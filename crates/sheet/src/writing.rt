@@ -42,7 +42,8 @@ pub fn write<C: Source, T: Scale>(docket: &Docket<C, T>, buffer: &mut [u8]) -> R
     Ok(layout.length())
 }
 
-// Everything before the trailer.
+// Everything before the trailer. This and the two functions that follow ask for the room each: a type
+// of the layout and the buffer would have to say of each that it leaves the layout.
 fn put_numbers<C: Source, T: Scale>(
     docket: &Docket<C, T>,
     held: &Enclosure,

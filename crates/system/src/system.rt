@@ -7,7 +7,8 @@ mod posts;
 use span::Span;
 
 // n states, k settings, and what was posted: each coefficient within one whole, each payout
-// within 100, each setting's range within one.
+// within 100, each setting's range within one. The arrays are of the largest game's size, and longer
+// than most games need: a system uses no heap.
 #[derive(Clone, Copy)]
 pub struct System {
     // S, the units in one whole

@@ -34,7 +34,8 @@ impl<'b> Framed<'b> {
     }
 }
 
-// n, k and the narrowings, before the zero that ends a sheet.
+// n, k and the narrowings, before the zero that ends a sheet. The 28 bytes are asked of all bytes, and
+// not cut off, since a fault tells where it is in the whole.
 fn head(bytes: &[u8]) -> Result<(u8, u8, u8), Fault>
     requires { 28 ≤ length bytes.now }
     ensures { elim result [ Ok p ↦ (first_no (head_questions 0 bytes.now) ≡ None) × (p.0 ≡ n_at 0 bytes.now) × (p.1 ≡ k_at 0 bytes.now) × (p.2 ≡ m_at 0 bytes.now) | Err f ↦ first_no (head_questions 0 bytes.now) ≡ Some f ] }

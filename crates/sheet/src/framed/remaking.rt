@@ -115,7 +115,8 @@ impl Framed<'_> {
         made(docket.call(call), 4 * layout.trial())
     }
 
-    // The numbers from a place on, as many as any section has.
+    // The numbers from a place on, as many as any section has: in an array, since a recheck uses no
+    // heap.
     fn numbers(&self, from: usize) -> [i32; 144]
         requires { from ≤ 16777980 }
         ensures long { length result ≡ 144 }
