@@ -11,6 +11,6 @@ mod reading;
 
 pub use asked::Asked;
 pub use figure::Form;
-pub use kind::Kind;
+pub use kind::{Kind, NoKind};
 pub use mistake::{Mistake, Unread};
 pub use reading::read;

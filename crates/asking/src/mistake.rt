@@ -51,7 +51,7 @@ impl fmt::Display for Mistake<'_> {
 
 impl Error for Mistake<'_> {}
 
-// How a call is written.
+// How a call is written; what a kind prints is its name alone.
 fn usage(kind: Kind) -> &'static str
     ensures { result.now ≡ usage_text kind }
 {

@@ -9,6 +9,6 @@ mod reading;
 
 pub use answer::Answer;
 pub use call::Call;
-pub use kind::Kind;
+pub use kind::{Kind, NoKind};
 pub use mistake::Mistake;
 pub use reading::{number, read};
