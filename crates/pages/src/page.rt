@@ -104,30 +104,68 @@ impl<'a> Page<'a> {
         store: Store,
         lines: &[Vec<u8>],
     ) -> io::Result<Game> {
+        match self.settings.program {
+            Program::Rows => self.line_by_line::<T>(lines),
+            Program::Games => self.at_once::<T, F>(store, lines),
+        }
+    }
+
+    // No call about rows asks of a docket: each line is told before the next is read, and nothing of
+    // it is kept.
+    fn line_by_line<T: Scale>(&mut self, lines: &[Vec<u8>]) -> io::Result<Game> {
+        let mut teller = Teller::new(self.rt, self.settings.answers);
+        for line in lines {
+            let step = Step::of(self.rt.alloc(), Program::Rows, line.as_slice())?;
+            teller.next_line(line.as_slice());
+            self.tell::<T>(&mut teller, &step, &[])?;
+        }
+        teller.end()
+    }
+
+    // A game's calls make one run, on a new docket.
+    fn at_once<T: Scale + Drop, F: Scale>(
+        &mut self,
+        store: Store,
+        lines: &[Vec<u8>],
+    ) -> io::Result<Game> {
         let heap = self.rt.alloc();
-        let steps = steps(heap, self.settings.program, lines)?;
+        let steps = steps(heap, Program::Games, lines)?;
         let puts = puts(heap, steps.as_slice())?;
         let outcomes = outcomes::<T, F>(heap, store, puts.as_slice())?;
         let mut left = outcomes.as_slice();
         let mut teller = Teller::new(self.rt, self.settings.answers);
         for (line, step) in lines.iter().zip(steps.as_slice()) {
             teller.next_line(line.as_slice());
-            match step {
-                Step::NoCall => {}
-                Step::Bad(what) => teller.bad(what.as_str())?,
-                Step::Pure(call) => {
-                    let found = call.answer::<T>();
-                    self.tally.count(&found);
-                    teller.pure(&found)?;
-                }
-                Step::Put(posed) => {
-                    let (here, others) = parted(left, posed.count());
-                    teller.put(posed, here)?;
-                    left = others;
-                }
-            }
+            left = self.tell::<T>(&mut teller, step, left)?;
         }
         teller.end()
+    }
+
+    // Tells a step, what it put to the run by the first outcomes; the others are left.
+    fn tell<'o, T: Scale>(
+        &mut self,
+        teller: &mut Teller<'_>,
+        step: &Step,
+        outcomes: &'o [Outcome],
+    ) -> io::Result<&'o [Outcome]> {
+        match step {
+            Step::NoCall => Ok(outcomes),
+            Step::Bad(what) => {
+                teller.bad(what.as_str())?;
+                Ok(outcomes)
+            }
+            Step::Pure(call) => {
+                let found = call.answer::<T>();
+                self.tally.count(&found);
+                teller.pure(&found)?;
+                Ok(outcomes)
+            }
+            Step::Put(posed) => {
+                let (here, left) = parted(outcomes, posed.count());
+                teller.put(posed, here)?;
+                Ok(left)
+            }
+        }
     }
 
     // The last lines, where rows were looked at, and where games were done of several files; whether
