@@ -1,5 +1,5 @@
 // The kinds of call about a game, each with its name.
-ghost use Rattle.std.specs.Prelude.{Some};
+ghost use Rattle.std.specs.Prelude.{◌≡◌, Some};
 ghost use Rattle.asking.specs.Kinds.{IsNamed, name_of};
 
 use std::fmt;
@@ -49,7 +49,15 @@ impl fmt::Display for Kind {
     ghost output = { λ k. Some (name_of k) };
 
     fn fmt<W: fmt::Write>(&self, f: &mut fmt::Formatter<W>) -> fmt::Result {
-        f.write_str(match self {
+        f.write_str(self.name())
+    }
+}
+
+impl Kind {
+    pub fn name(self) -> &'static str
+        ensures { result.now ≡ name_of self }
+    {
+        match self {
             Kind::Open => "open",
             Kind::PostMatrix => "post-matrix",
             Kind::PostPayout => "post-payout",
@@ -60,6 +68,6 @@ impl fmt::Display for Kind {
             Kind::Narrow => "narrow",
             Kind::Row => "row",
             Kind::Table => "table",
-        })
+        }
     }
 }

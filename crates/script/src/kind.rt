@@ -43,7 +43,15 @@ impl fmt::Display for Kind {
     ghost output = { λ k. Some (name_of k) };
 
     fn fmt<W: fmt::Write>(&self, f: &mut fmt::Formatter<W>) -> fmt::Result {
-        f.write_str(match self {
+        f.write_str(self.name())
+    }
+}
+
+impl Kind {
+    pub fn name(self) -> &'static str
+        ensures { result.now ≡ name_of self }
+    {
+        match self {
             Kind::Bring => "bring",
             Kind::Span => "span",
             Kind::SpanAdd => "span-add",
@@ -51,11 +59,9 @@ impl fmt::Display for Kind {
             Kind::SpanMul => "span-mul",
             Kind::SpanBack => "span-back",
             Kind::Audit => "audit",
-        })
+        }
     }
-}
 
-impl Kind {
     // How many numbers the call takes.
     pub fn count(self) -> usize
         ensures { result ≡ takes self }
