@@ -1,4 +1,5 @@
 pub mod Counts
+pub mod Entries
 pub mod Grids
 pub mod Listings
 pub mod Meanings

@@ -84,8 +84,6 @@ fn sum_at<P: Exact>(entries: &[Entry<P>], used: usize, place: &P) -> Option<i32>
 fn find<P: Exact>(entries: &[Entry<P>], used: usize, place: &P) -> Option<usize>
     ensures { elim result [ Some i ↦ ((s : ℤ) × FirstAt entries.now used place.now i s) | None ↦ NoneAt entries.now used place.now ] }
 {
-    entries
-        .iter()
-        .take(used)
-        .position(|entry| entry.place == *place)
+    let end = used.min(entries.len());
+    (0..end).find(|at| entries[*at].place == *place)
 }
