@@ -61,21 +61,21 @@ impl fmt::Display for Refusal {
 pub fn run(game: Single) -> Result<Span, Refusal>
     ensures { Enclosed }
 {
-    let system = posted(game)?;
+    let settings = usize::from(game.swing.is_some());
+    let mut system = System::new::<Millionths>(1, settings)?;
+    post(&mut system, game)?;
     held(&system, game)
 }
 
-fn posted(game: Single) -> Result<System, system::Fault> {
-    let settings = usize::from(game.swing.is_some());
+fn post(system: &mut System, game: Single) -> Result<(), system::Fault> {
     let (coefficient, payout) = game.fixed;
-    let mut system = System::new::<Millionths>(1, settings)?;
     system.post_matrix(0, 0, 0, coefficient)?;
     system.post_payout(0, 0, payout)?;
     if let Some((coefficient, low, high)) = game.swing {
         system.post_matrix(1, 0, 0, coefficient)?;
         system.set_range(1, low, high)?;
     }
-    Ok(system)
+    Ok(())
 }
 
 fn held(system: &System, game: Single) -> Result<Span, Refusal> {
