@@ -117,7 +117,7 @@ impl<'a> Page<'a> {
         for line in lines {
             let step = Step::of(self.rt.alloc(), Program::Rows, line.as_slice())?;
             teller.next_line(line.as_slice());
-            self.tell::<T>(&mut teller, &step, &[])?;
+            self.tell::<T>(&mut teller, &step)?;
         }
         teller.end()
     }
@@ -136,34 +136,27 @@ impl<'a> Page<'a> {
         let mut teller = Teller::new(self.rt, self.settings.answers);
         for (line, step) in lines.iter().zip(steps.as_slice()) {
             teller.next_line(line.as_slice());
-            left = self.tell::<T>(&mut teller, step, left)?;
+            match step {
+                Step::Put(posed) => {
+                    let (here, others) = parted(left, posed.count());
+                    teller.put(posed, here)?;
+                    left = others;
+                }
+                _ => self.tell::<T>(&mut teller, step)?,
+            }
         }
         teller.end()
     }
 
-    // Tells a step, what it put to the run by the first outcomes; the others are left.
-    fn tell<'o, T: Scale>(
-        &mut self,
-        teller: &mut Teller<'_>,
-        step: &Step,
-        outcomes: &'o [Outcome],
-    ) -> io::Result<&'o [Outcome]> {
+    // Tells a step that puts nothing to a run.
+    fn tell<T: Scale>(&mut self, teller: &mut Teller<'_>, step: &Step) -> io::Result<()> {
         match step {
-            Step::NoCall => Ok(outcomes),
-            Step::Bad(what) => {
-                teller.bad(what.as_str())?;
-                Ok(outcomes)
-            }
+            Step::NoCall | Step::Put(_) => Ok(()),
+            Step::Bad(what) => teller.bad(what.as_str()),
             Step::Pure(call) => {
                 let found = call.answer::<T>();
                 self.tally.count(&found);
-                teller.pure(&found)?;
-                Ok(outcomes)
-            }
-            Step::Put(posed) => {
-                let (here, left) = parted(outcomes, posed.count());
-                teller.put(posed, here)?;
-                Ok(left)
+                teller.pure(&found)
             }
         }
     }
